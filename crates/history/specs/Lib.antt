@@ -1,0 +1,11 @@
+pub mod Layout
+pub mod Memory
+pub mod Pass
+pub mod Locks
+pub mod Legal
+pub mod Copied
+pub mod Instants
+pub mod Sliding
+pub mod Broken
+pub mod Names
+pub mod Worked
