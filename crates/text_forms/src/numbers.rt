@@ -1,0 +1,54 @@
+//! Numbers in texts.
+
+ghost use Rattle.std.specs.Prelude.{◌≡◌, ◌+◌, ◌*◌, ◌^◌, ◌<◌, ◌≤◌, SomeIff};
+ghost use Rattle.std.specs.Char.{digit_value};
+ghost use Rattle.text_forms.specs.Numbers.{number_of, decimal_of, hex_of};
+
+// The number with one digit more at its end.
+fn with_digit(base: u32, value: u64, c: u8) -> Option<u64>
+    requires low { 2 ≤ base }
+    requires high { base ≤ 16 }
+    ensures { SomeIff result ((digit_value c < base) × (value * base + digit_value c < 2 ^ 64)) (value * base + digit_value c) }
+{
+    let digit = char::from(c).to_digit(base)?;
+    let shifted = value.checked_mul(u64::from(base))?;
+    shifted.checked_add(u64::from(digit))
+}
+
+// The number below 2 ^ 64 that these digits are, in a base of at most 16.
+fn number(base: u32, digits: &[u8]) -> Option<u64>
+    requires low { 2 ≤ base }
+    requires high { base ≤ 16 }
+    ensures { result ≡ number_of base digits.now }
+{
+    let mut value = 0u64;
+    for c in digits {
+        let Some(more) = with_digit(base, value, *c) else {
+            return None;
+        };
+        value = more;
+    }
+    Some(value)
+}
+
+/// The decimal number below `2^64` that these digits are: 1 to 20 of them, which may begin with zeros.
+pub fn decimal(digits: &[u8]) -> Option<u64>
+    ensures { result ≡ decimal_of digits.now }
+{
+    if digits.is_empty() || digits.len() > 20 {
+        return None;
+    }
+    number(10, digits)
+}
+
+/// The hexadecimal number that these digits are: `count` of them, at most 8, of either case.
+pub fn hex_number(count: usize, digits: &[u8]) -> Option<u32>
+    requires { count ≤ 8 }
+    ensures { result ≡ hex_of count digits.now }
+{
+    if digits.len() != count {
+        return None;
+    }
+    let value = number(16, digits)?;
+    Some(value as u32)
+}
