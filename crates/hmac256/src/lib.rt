@@ -11,7 +11,7 @@
 //! ```
 #![tactic(auto)]
 
-ghost use Rattle.std.specs.Prelude.{◌≡◌, ◌≤◌, ◌++◌, ℕ, List, [], length};
+ghost use Rattle.std.specs.Prelude.{◌≡◌, ◌≤◌, length};
 ghost use Rattle.hmac256.specs.Hmac.{hmac, padded_key, xor_each, zero_filled};
 
 use sha2::{Digest, Sha256};
@@ -25,7 +25,7 @@ const IPAD: u8 = 0x36;
 /// The byte that the outer pad repeats (RFC 2104, section 2).
 const OPAD: u8 = 0x5c;
 
-/// The bytes, filled with zeros to a block.
+/// The bytes, filled with zeros to a block (RFC 2104, section 2, step 1).
 fn filled(bytes: &[u8]) -> [u8; BLOCK]
     requires { length bytes.now ≤ BLOCK }
     ensures { result ≡ zero_filled bytes.now }
@@ -35,7 +35,7 @@ fn filled(bytes: &[u8]) -> [u8; BLOCK]
     block
 }
 
-/// The key as one block: a key longer than a block is hashed first.
+/// The key as one block: a key longer than a block is hashed first (RFC 2104, section 2).
 fn block_of(key: &[u8]) -> [u8; BLOCK]
     ensures { result ≡ padded_key key.now }
 {
@@ -81,7 +81,8 @@ impl Hmac {
 
     /// Appends `piece` to the text.
     pub fn update(&mut self, piece: &[u8])
-        ensures { (key text : List ℕ) → StandsFor self.old key text → StandsFor self.new key (text ++ piece.now) }
+        ensures { (key text : List ℕ) → StandsFor self.old key text
+            → StandsFor self.new key (text ++ piece.now) }
     {
         self.inner.update(piece);
     }
