@@ -1,5 +1,6 @@
 -- Memory as a row of blocks, and the accesses that it has room for.
 use Rattle.std.specs.Prelude.{◌≡◌, ℕ, ◌+◌, ◌-◌, ◌*◌, ◌/◌, ◌%◌, ◌^◌, ◌<◌, ◌≤◌, Bool, ◌&&◌, ◌==◌, nat_le, nat_lt, List, length, All}
+use Rattle.std.specs.List.{list_any, range_with_len}
 use Rattle.history.specs.declared.events.Width.{Width}
 use Rattle.history.specs.declared.events.Width.TheVariants.{Byte, Half, Word}
 
@@ -29,6 +30,13 @@ pub record IsLayout (l : Layout) : Type 0 where
   pub few_bytes : byte_count l ≤ 1048576
   pub on_block : l.base % l.size ≡ 0
   pub in_space : past_end l ≤ 2 ^ 32
+
+-- the same as a test
+abbrev pub is_layout : Layout → Bool
+is_layout l =
+    list_any (λ exponent. l.size == 2 ^ exponent) (range_with_len 4 13)
+    && nat_le 1 l.blocks && nat_le l.blocks 4096 && nat_le (byte_count l) 1048576
+    && (l.base % l.size == 0) && nat_le (past_end l) (2 ^ 32)
 
 -- the byte at this address is in memory
 abbrev pub has_byte : Layout → ℕ → Bool

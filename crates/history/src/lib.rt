@@ -7,5 +7,6 @@ mod worked;
 
 pub use events::{Act, Discipline, Entry, Width};
 pub use worked::{
-    instants_of_one_pass, locks_of_one_pass, memory_of_small_histories, rules_of_small_histories,
+    instants_of_one_pass, layouts_are_tested, locks_of_one_pass, memory_of_small_histories,
+    rules_of_small_histories,
 };

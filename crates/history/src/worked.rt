@@ -1,6 +1,7 @@
 //! The definitions, computed on small histories: each contract here is read beside `specs/`.
 
-ghost use Rattle.std.specs.Prelude.{◌≡◌, ◌+◌, ◌*◌, [], ◌∷◌, ◌++◌, map, replicate, reverse, Some, None};
+ghost use Rattle.std.specs.Prelude.{◌≡◌, ◌+◌, ◌*◌, [], ◌∷◌, ◌++◌, map, replicate, reverse, Some, None, IsTrue};
+ghost use Rattle.history.specs.Layout.{Layout, IsLayout, is_layout};
 ghost use Rattle.history.specs.declared.events.Discipline.TheVariants.{All, AllExt, Dec, Inc, IncExt};
 ghost use Rattle.history.specs.declared.events.Width.TheVariants.{Byte, Half, Word};
 ghost use Rattle.history.specs.declared.events.Act.TheVariants.{Fetch, Load, Store, Start, Copy, End, Tick, Release};
@@ -9,6 +10,12 @@ ghost use Rattle.history.specs.Copied.{copied_bytes};
 ghost use Rattle.history.specs.Instants.{IsInstant};
 ghost use Rattle.history.specs.Broken.{broken};
 ghost use Rattle.history.specs.Worked.{setting, measurer, application, short_pass, long_pass, locked_blocks, at, stores, store_in_pass};
+
+/// The test of a layout and the fact say the same.
+pub fn layouts_are_tested()
+    ensures is { (l : Layout) → IsTrue (is_layout l) → IsLayout l }
+    ensures tested { (l : Layout) → IsLayout l → IsTrue (is_layout l) }
+{}
 
 /// The blocks that each discipline locks, at each place of one pass over blocks 1 and 2 of four.
 pub fn locks_of_one_pass()
