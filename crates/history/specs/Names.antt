@@ -1,5 +1,6 @@
 -- The words and the codes of the disciplines.
-use Rattle.std.specs.Prelude.{ℕ, List, codes}
+use Rattle.std.specs.Prelude.{ℕ, if◌then◌else◌, List, codes, Option, Some, None}
+use Rattle.std.specs.Str.{bytes_eq}
 use Rattle.history.specs.declared.events.Discipline.{Discipline}
 use Rattle.history.specs.declared.events.Discipline.TheVariants.{All, AllExt, Dec, Inc, IncExt}
 
@@ -18,3 +19,13 @@ word_of AllExt = codes "all-ext"
 word_of Dec = codes "dec"
 word_of Inc = codes "inc"
 word_of IncExt = codes "inc-ext"
+
+-- the discipline with this word
+abbrev pub discipline_of : List ℕ → Option Discipline
+discipline_of word =
+    if bytes_eq word (word_of All) then Some All
+    else (if bytes_eq word (word_of AllExt) then Some AllExt
+    else (if bytes_eq word (word_of Dec) then Some Dec
+    else (if bytes_eq word (word_of Inc) then Some Inc
+    else (if bytes_eq word (word_of IncExt) then Some IncExt
+    else None))))

@@ -86,7 +86,7 @@ impl Width {
 
 impl Discipline {
     ghost use Rattle.history.specs.declared.events.Discipline.{Discipline};
-    ghost use Rattle.history.specs.Names.{code_of, word_of};
+    ghost use Rattle.history.specs.Names.{code_of, discipline_of, word_of};
     ghost use Rattle.history.specs.Pass.{is_extended};
 
     /// The discipline's code in messages and traces, 1 to 5.
@@ -119,22 +119,32 @@ impl Discipline {
 
     /// The discipline with this word, as in `inc-ext`; None where no discipline has it.
     pub fn from_word(word: &str) -> Option<Discipline>
+        ensures value { result ≡ discipline_of word.now }
         ensures found { IfSome result (λ discipline. word_of discipline ≡ word.now) }
         ensures none { IfNone result ((discipline : Discipline) → word_of discipline ≢ word.now) }
     {
-        if word == "all" {
+        Discipline::from_word_bytes(word.as_bytes())
+    }
+
+    /// The same, of the word's bytes.
+    pub fn from_word_bytes(word: &[u8]) -> Option<Discipline>
+        ensures value { result ≡ discipline_of word.now }
+        ensures found { IfSome result (λ discipline. word_of discipline ≡ word.now) }
+        ensures none { IfNone result ((discipline : Discipline) → word_of discipline ≢ word.now) }
+    {
+        if word == b"all".as_slice() {
             return Some(Discipline::All);
         }
-        if word == "all-ext" {
+        if word == b"all-ext".as_slice() {
             return Some(Discipline::AllExt);
         }
-        if word == "dec" {
+        if word == b"dec".as_slice() {
             return Some(Discipline::Dec);
         }
-        if word == "inc" {
+        if word == b"inc".as_slice() {
             return Some(Discipline::Inc);
         }
-        if word == "inc-ext" {
+        if word == b"inc-ext".as_slice() {
             return Some(Discipline::IncExt);
         }
         None
