@@ -1,0 +1,4 @@
+pub mod Stores
+pub mod Passes
+pub mod Slide
+pub mod Places

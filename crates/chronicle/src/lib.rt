@@ -1,0 +1,9 @@
+//! What holds of each history that plain memory and the order of a measurement allow.
+//!
+//! Each law is a public function with an empty body whose contract is the law, over the definitions of the
+//! crate `history` alone. There is no code that could be wrong, so the crate has no must-fail edits.
+#![tactic(auto)]
+
+mod laws;
+
+pub use laws::locks_slide;
