@@ -1,5 +1,5 @@
 -- A pass from one entry to the next.
-use Rattle.std.proofs.Common.{◌≡◌, ℕ, suc, ◌<◌, ◌≤◌, Bool, true, false, not, List, [], ◌∷◌, Option, Some, None, option_map, refl, sym, ap, ◌∙◌, subst, inl, inr, arith}
+use Rattle.std.proofs.Common.{◌≡◌, ℕ, suc, ◌<◌, ◌≤◌, Bool, true, false, not, List, [], ◌∷◌, ◌++◌, length, Option, Some, None, option_map, refl, sym, ap, ◌∙◌, subst, inl, inr, arith, ap₂, length-append}
 use Rattle.std.specs.Prelude.{◌&&◌, ◌⊎◌, IsTrue, nat_le}
 use Rattle.std.specs.List.{list_any}
 use Rattle.std.proofs.lemmas.Bool.{and_parts, false≢true, not-true, eqb-true, leb-true, le-leb, lt-ltb}
@@ -9,7 +9,8 @@ use Rattle.history.specs.declared.events.Act.{Act}
 use Rattle.history.specs.declared.events.Act.TheVariants.{Fetch, Load, Store, Start, Copy, End, Tick, Release}
 use Rattle.history.specs.declared.events.Entry.{Entry}
 use Rattle.history.specs.Layout.{Setting}
-use Rattle.history.specs.Pass.{Pass, longer, pass_step, pass_after, copied_of, is_ended, is_released, is_end, is_release}
+use Rattle.history.specs.Pass.{Pass, longer, pass_step, pass_after, start_of, copied_of, is_ended, is_released, is_end, is_release}
+use Rattle.history.specs.Instants.{is_newest}
 use Rattle.history.specs.Locks.{locks}
 use Rattle.history.specs.Legal.{IsLegalBack, in_order}
 use Rattle.history.specs.Sliding.{locks_at_start}
@@ -18,36 +19,89 @@ use Rattle.history.specs.Sliding.{locks_at_start}
 abbrev pub entry_of : ℕ → Act → Entry
 entry_of actor act = record { actor = actor; act = act }
 
+-- the act opens a pass
+abbrev pub is_start : Act → Bool
+is_start (Start discipline counter) = true
+is_start _ = false
+
 -- the entry opened the pass
 pub record Opens (entry : Entry) (past : List Entry) (pass : Pass) : Type 0 where
+  pub starts : IsTrue (is_start entry.act)
   pub since : pass.since ≡ []
   pub opened : pass.opened ≡ entry ∷ past
 
 -- an earlier pass went on with the entry
 pub record GoesOn (entry : Entry) (before : Option Pass) (pass : Pass) : Type 0 where
+  pub runs : is_start entry.act ≡ false
   pub earlier : Pass
   pub was : before ≡ Some earlier
   pub now : longer entry earlier ≡ pass
 
-goes_on : (entry : Entry) (before : Option Pass) (pass : Pass) → option_map (longer entry) before ≡ Some pass → GoesOn entry before pass
-goes_on entry None pass h = absurd cc
-goes_on entry (Some earlier) pass h = record { earlier = earlier; was = refl; now = cc }
+goes_on : (entry : Entry) (before : Option Pass) (pass : Pass) → is_start entry.act ≡ false → option_map (longer entry) before ≡ Some pass → GoesOn entry before pass
+goes_on entry None pass runs h = absurd cc
+goes_on entry (Some earlier) pass runs h = record { runs = runs; earlier = earlier; was = refl; now = cc }
 
-step_cases : (act : Act) (entry : Entry) (past : List Entry) (before : Option Pass) (pass : Pass) → pass_step act entry past before ≡ Some pass → Opens entry past pass ⊎ GoesOn entry before pass
-step_cases (Start discipline counter) entry past before pass h =
-    let same : record { discipline = discipline; counter = counter; since = []; opened = entry ∷ past } ≡ pass = cc in
-    inl (record { since = sym (ap (λ p. p.since) same); opened = sym (ap (λ p. p.opened) same) })
-step_cases (Fetch addr value) entry past before pass h = inr (goes_on entry before pass h)
-step_cases (Load addr width value) entry past before pass h = inr (goes_on entry before pass h)
-step_cases (Store addr width value) entry past before pass h = inr (goes_on entry before pass h)
-step_cases (Copy block) entry past before pass h = inr (goes_on entry before pass h)
-step_cases End entry past before pass h = inr (goes_on entry before pass h)
-step_cases Tick entry past before pass h = inr (goes_on entry before pass h)
-step_cases Release entry past before pass h = inr (goes_on entry before pass h)
+step_cases : (actor : ℕ) (act : Act) (past : List Entry) (before : Option Pass) (pass : Pass) → pass_step act (entry_of actor act) past before ≡ Some pass → Opens (entry_of actor act) past pass ⊎ GoesOn (entry_of actor act) before pass
+step_cases actor (Start discipline counter) past before pass h =
+    let same : record { discipline = discipline; counter = counter; since = []; opened = entry_of actor (Start discipline counter) ∷ past } ≡ pass = cc in
+    inl (record { starts = refl; since = sym (ap (λ p. p.since) same); opened = sym (ap (λ p. p.opened) same) })
+step_cases actor (Fetch addr value) past before pass h = inr (goes_on _ before pass refl h)
+step_cases actor (Load addr width value) past before pass h = inr (goes_on _ before pass refl h)
+step_cases actor (Store addr width value) past before pass h = inr (goes_on _ before pass refl h)
+step_cases actor (Copy block) past before pass h = inr (goes_on _ before pass refl h)
+step_cases actor End past before pass h = inr (goes_on _ before pass refl h)
+step_cases actor Tick past before pass h = inr (goes_on _ before pass refl h)
+step_cases actor Release past before pass h = inr (goes_on _ before pass refl h)
 
 -- the newest entry opened the pass, or a pass went on with it
 pub pass_cases : (entry : Entry) (past : List Entry) (pass : Pass) → pass_after (entry ∷ past) ≡ Some pass → Opens entry past pass ⊎ GoesOn entry (pass_after past) pass
-pass_cases entry past pass h = step_cases entry.act entry past (pass_after past) pass h
+pass_cases entry past pass h = step_cases entry.actor entry.act past (pass_after past) pass h
+
+-- a pass is the entries since its Start, and those up to it
+pub pass_whole : (past : List Entry) (pass : Pass) → pass_after past ≡ Some pass → pass.since ++ pass.opened ≡ past
+pass_whole [] pass h = absurd cc
+pass_whole (entry ∷ past) pass h =
+    elim (pass_cases entry past pass h) [
+      | inl o ↦ ap₂ (λ since opened. since ++ opened) o.since o.opened
+      | inr g ↦ subst (λ p. p.since ++ p.opened ≡ entry ∷ past) g.now (ap (λ l. entry ∷ l) (pass_whole past g.earlier g.was))
+    ]
+
+-- the same pass at an earlier place
+pub record Earlier (newer older : List Entry) (pass : Pass) : Type 0 where
+  pub earlier : Pass
+  pub was : pass_after older ≡ Some earlier
+  pub discipline : earlier.discipline ≡ pass.discipline
+  pub counter : earlier.counter ≡ pass.counter
+  pub opened : earlier.opened ≡ pass.opened
+  pub since : newer ++ earlier.since ≡ pass.since
+
+-- a pass goes back to its Start
+pub earlier_pass : (newer older : List Entry) (pass : Pass) → pass_after (newer ++ older) ≡ Some pass → start_of pass ≤ length older → Earlier newer older pass
+earlier_pass [] older pass h from = record { earlier = pass; was = h; discipline = refl; counter = refl; opened = refl; since = refl }
+earlier_pass (entry ∷ newer) older pass h from =
+    elim (pass_cases entry (newer ++ older) pass h) [
+      | inl o ↦ absurd (omega (arith, from, ap length o.opened, length-append newer older))
+      | inr g ↦
+          let from' = subst (λ p. start_of p ≤ length older) (sym g.now) from in
+          let e = earlier_pass newer older g.earlier g.was from' in
+          subst (λ p. Earlier (entry ∷ newer) older p) g.now (record { earlier = e.earlier; was = e.was; discipline = e.discipline; counter = e.counter; opened = e.opened; since = ap (λ l. entry ∷ l) e.since })
+    ]
+
+-- the newest entry, if it stands in the pass and passes the test
+pub record Closes (test : Act → Bool) (past : List Entry) (pass : Pass) : Type 0 where
+  pub entry : Entry
+  pub before : List Entry
+  pub whole : past ≡ entry ∷ before
+  pub kind : IsTrue (test entry.act)
+  pub on : GoesOn entry (pass_after before) pass
+
+pub closes : (test : Act → Bool) (past : List Entry) (pass : Pass) → pass_after past ≡ Some pass → IsTrue (is_newest test pass.since) → Closes test past pass
+closes test [] pass h newest = absurd cc
+closes test (entry ∷ past) pass h newest =
+    elim (pass_cases entry past pass h) [
+      | inl o ↦ absurd (false≢true (sym (ap (λ l. is_newest test l) o.since) ∙ newest))
+      | inr g ↦ record { entry = entry; before = past; whole = refl; kind = subst (λ p. IsTrue (is_newest test p.since)) (sym g.now) newest; on = g }
+    ]
 
 -- End comes after the last Copy, and Release after End
 pub record InTurn (w : Setting) (pass : Pass) : Type 0 where

@@ -1,6 +1,6 @@
 -- A history in its own order, and the entries before a place, the newest first.
-use Rattle.std.proofs.Common.{◌≡◌, ℕ, List, [], ◌∷◌, ◌++◌, take, drop, reverse, sym, ap, ◌∙◌, subst}
-use Rattle.std.proofs.lemmas.List.{reverse-append, take-append-drop}
+use Rattle.std.proofs.Common.{◌≡◌, ℕ, ◌+◌, ◌≤◌, List, [], ◌∷◌, ◌++◌, length, take, drop, reverse, refl, sym, ap, ◌∙◌, subst, arith, length-append, length-take-le}
+use Rattle.std.proofs.lemmas.List.{reverse-append, length-reverse, take-append-drop, take-take, drop_at}
 use Rattle.history.specs.declared.events.Entry.{Entry}
 use Rattle.history.specs.Layout.{Setting}
 use Rattle.history.specs.Memory.{back}
@@ -18,3 +18,25 @@ reverse_split history place = sym (reverse-append (take place history) (drop pla
 -- the entries before a place of a legal history are legal
 pub legal_back : (w : Setting) (history : List Entry) → IsLegal w history → (place : ℕ) → IsLegalBack w (back history place)
 legal_back w history legal place = legal_rest w (reverse (drop place history)) (back history place) (subst (λ l. IsLegalBack w l) (sym (reverse_split history place)) legal)
+
+-- the number of entries before a place
+pub length_back : (history : List Entry) (place : ℕ) → place ≤ length history → length (back history place) ≡ place
+length_back history place within = length-reverse (take place history) ∙ length-take-le place history within
+
+-- the entries before a place end with those before an earlier one
+pub back_split : (history : List Entry) (place later : ℕ) → place ≤ later → reverse (drop place (take later history)) ++ back history place ≡ back history later
+back_split history place later order =
+    ap (λ l. reverse (drop place (take later history)) ++ reverse l) (sym (take-take place later history order)) ∙ reverse_split (take later history) place
+
+-- older entries before a place are those before their number
+pub back_older : (history : List Entry) (later : ℕ) → later ≤ length history → (newer older : List Entry) → newer ++ older ≡ back history later → older ≡ back history (length older)
+back_older history later within newer older whole =
+    let place = length older in
+    let count : length newer + place ≡ later = sym (length-append newer older) ∙ ap length whole ∙ length_back history later within in
+    let order : place ≤ later = omega arith in
+    let other = reverse (drop place (take later history)) in
+    let both : other ++ back history place ≡ newer ++ older = back_split history place later order ∙ sym whole in
+    let rest : place ≤ length history = omega arith in
+    let counts : length other + length (back history place) ≡ length newer + length older = sym (length-append other (back history place)) ∙ ap length both ∙ length-append newer older in
+    let same : length other ≡ length newer = omega (arith, length_back history place rest) in
+    sym (drop_at newer older (length newer) refl) ∙ ap (λ l. drop (length newer) l) (sym both) ∙ drop_at other (back history place) (length newer) same

@@ -47,7 +47,7 @@ waiting_locked w pass turn begins block attested waiting =
     locks_waiting pass.discipline (copied_of pass) (is_ended pass) (is_released pass) (index_of w block) begins running kept waiting
 
 -- no entry but a Copy copies a block
-not_copied : (block : ℕ) (act : Act) → is_copy act ≡ false → copies_block block act ≡ false
+pub not_copied : (block : ℕ) (act : Act) → is_copy act ≡ false → copies_block block act ≡ false
 not_copied block (Copy other) n = absurd (false≢true (sym n))
 not_copied block (Fetch addr value) n = refl
 not_copied block (Load addr width value) n = refl

@@ -6,4 +6,4 @@
 
 mod laws;
 
-pub use laws::locks_slide;
+pub use laws::{copied_is_memory, locks_slide};
