@@ -1,10 +1,12 @@
 -- A history in its own order, and the entries before a place, the newest first.
-use Rattle.std.proofs.Common.{◌≡◌, ℕ, ◌+◌, ◌≤◌, List, [], ◌∷◌, ◌++◌, length, take, drop, reverse, refl, sym, ap, ◌∙◌, subst, arith, length-append, length-take-le}
-use Rattle.std.proofs.lemmas.List.{reverse-append, length-reverse, take-append-drop, take-take, drop_at}
+use Rattle.std.proofs.Common.{◌≡◌, ℕ, ◌+◌, ◌≤◌, List, [], ◌∷◌, ◌++◌, length, take, drop, reverse, refl, sym, ap, ◌∙◌, subst, arith, length-append, length-take-le, take_all, Some}
+use Rattle.std.proofs.lemmas.List.{reverse-append, length-reverse, take-append-drop, take-append-le, take-take, take_more, drop_at}
+use Rattle.std.proofs.lemmas.Option.{slice_get_within, get_or_from_slice_get}
+use Rattle.std.specs.List.{slice_get}
 use Rattle.history.specs.declared.events.Entry.{Entry}
 use Rattle.history.specs.Layout.{Setting}
 use Rattle.history.specs.Memory.{back}
-use Rattle.history.specs.Legal.{IsLegalBack, IsLegal}
+use Rattle.history.specs.Legal.{MayFollow, IsLegalBack, IsLegal}
 
 -- the older entries of a legal history are legal
 pub legal_rest : (w : Setting) (newer older : List Entry) → IsLegalBack w (newer ++ older) → IsLegalBack w older
@@ -40,3 +42,34 @@ back_older history later within newer older whole =
     let counts : length other + length (back history place) ≡ length newer + length older = sym (length-append other (back history place)) ∙ ap length both ∙ length-append newer older in
     let same : length other ≡ length newer = omega (arith, length_back history place rest) in
     sym (drop_at newer older (length newer) refl) ∙ ap (λ l. drop (length newer) l) (sym both) ∙ drop_at other (back history place) (length newer) same
+
+-- all of a history, the newest first
+pub back_all : (history : List Entry) → back history (length history) ≡ reverse history
+back_all history = ap reverse (take_all (length history) history (omega arith))
+
+-- later entries change nothing before a place
+pub back-append : (history more : List Entry) (place : ℕ) → place ≤ length history → back (history ++ more) place ≡ back history place
+back-append history more place within = ap reverse (take-append-le place history more within)
+
+-- one entry more, the newest first
+pub reverse_more : (history : List Entry) (entry : Entry) → reverse (history ++ entry ∷ []) ≡ entry ∷ reverse history
+reverse_more history entry = reverse-append history (entry ∷ [])
+
+-- the entry that stands at a place is the newest at the next
+pub back_more : (history : List Entry) (place : ℕ) (entry : Entry) → slice_get history place ≡ Some entry → back history (place + 1) ≡ entry ∷ back history place
+back_more history place entry is =
+    let within = slice_get_within history place entry is in
+    let at = get_or_from_slice_get history place entry entry is in
+    ap reverse (take_more history place entry within ∙ ap (λ e. take place history ++ e ∷ []) at) ∙ reverse_more (take place history) entry
+
+-- a legal history with one entry more that may follow is legal
+pub legal_more : (w : Setting) (history : List Entry) (entry : Entry) → IsLegal w history → MayFollow w (reverse history) entry → IsLegal w (history ++ entry ∷ [])
+legal_more w history entry legal may =
+    let both : IsLegalBack w (entry ∷ reverse history) = (legal, may) in
+    subst (λ l. IsLegalBack w l) (sym (reverse_more history entry)) both
+
+-- and of a legal history the last entry may follow the others
+pub legal_less : (w : Setting) (history : List Entry) (entry : Entry) → IsLegal w (history ++ entry ∷ []) → IsLegal w history × MayFollow w (reverse history) entry
+legal_less w history entry legal =
+    let both : IsLegalBack w (entry ∷ reverse history) = subst (λ l. IsLegalBack w l) (reverse_more history entry) legal in
+    (both.0, both.1)

@@ -6,4 +6,6 @@
 
 mod laws;
 
-pub use laws::{copied_is_memory, locks_slide};
+pub use laws::{
+    copied_is_memory, locks_slide, one_entry_more, places_of_a_history, prefixes_are_legal,
+};
