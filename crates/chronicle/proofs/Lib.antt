@@ -5,3 +5,5 @@ pub mod Places
 pub mod Bytes
 pub mod Windows
 pub mod Copies
+pub mod Memories
+pub mod Own

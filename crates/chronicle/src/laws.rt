@@ -1,11 +1,13 @@
 //! The laws of a history.
 
-ghost use Rattle.std.specs.Prelude.{◌≡◌, ℕ, ◌+◌, ◌≤◌, List, [], ◌∷◌, ◌++◌, length, reverse, slice_get, take, Some};
+ghost use Rattle.std.specs.Prelude.{◌≡◌, ℕ, ◌+◌, ◌^◌, ◌<◌, ◌≤◌, ◌⊎◌, List, [], ◌∷◌, ◌++◌, length, reverse, All, slice_get, take, Some};
+ghost use Rattle.history.specs.declared.events.Width.{Width};
 ghost use Rattle.history.specs.declared.events.Entry.{Entry};
-ghost use Rattle.history.specs.Layout.{Setting};
-ghost use Rattle.history.specs.Memory.{back};
+ghost use Rattle.history.specs.Layout.{Setting, IsSetting, width_bytes};
+ghost use Rattle.history.specs.Memory.{Memory, back, memory_after, memory_at, own, value_in};
 ghost use Rattle.history.specs.Legal.{IsLegal, MayFollow};
 ghost use Rattle.history.specs.Sliding.{LocksSlide, CopiedIsMemory};
+ghost use Rattle.chronicle.specs.Laws.{between, patched, stored};
 
 /// While a pass runs, a block that is still to be copied has the bytes of Start, where the discipline locks
 /// from Start on, and a copied block that is still locked has the bytes of its own Copy.
@@ -51,4 +53,36 @@ pub fn one_entry_more()
         → MayFollow w (reverse history) entry → IsLegal w (history ++ entry ∷ []) }
     ensures less { (w : Setting) (history : List Entry) (entry : Entry) → IsLegal w (history ++ entry ∷ [])
         → IsLegal w history × MayFollow w (reverse history) entry }
+{}
+
+/// Memory is bytes, whatever the history: the first image is, and a store puts a remainder by 256. So the
+/// value that an access reads fits its width.
+pub fn memory_is_bytes()
+    ensures bytes { (w : Setting) → IsSetting w → (past : List Entry) (x : ℕ) → memory_after w past x < 256 }
+    ensures values { (m : Memory) → ((x : ℕ) → m x < 256) → (addr : ℕ) (width : Width)
+        → value_in m addr width < 256 ^ width_bytes width }
+{}
+
+/// The entries of some actors: they are a filter, so those of two lists in a row are those of the first and
+/// then those of the second, others have none, and a part of the actors has its own out of those of all.
+pub fn own_entries()
+    ensures append { (a b : List Entry) (low high : ℕ) → own (a ++ b) low high ≡ own a low high ++ own b low high }
+    ensures none { (low high : ℕ) (others : List Entry) → All (λ entry. (entry.actor < low) ⊎ (high ≤ entry.actor)) others
+        → own others low high ≡ [] }
+    ensures all { (low high : ℕ) (mine : List Entry) → All (λ entry. (low ≤ entry.actor) × (entry.actor < high)) mine
+        → own mine low high ≡ mine }
+    ensures part { (history : List Entry) (low high from upto : ℕ) → low ≤ from → upto ≤ high
+        → own (own history low high) from upto ≡ own history from upto }
+{}
+
+/// Memory at a later place is memory at an earlier one with the stores of the entries between applied in
+/// their order: the last store that covers a byte says what it is, and where none of these does, the
+/// earlier memory does.
+pub fn memory_later()
+    ensures next { (w : Setting) (history : List Entry) (place : ℕ) (entry : Entry) → slice_get history place ≡ Some entry
+        → (x : ℕ) → memory_at w history (place + 1) x ≡ stored entry (memory_at w history place) x }
+    ensures between { (w : Setting) (history : List Entry) (place later : ℕ) → place ≤ later
+        → (x : ℕ) → memory_at w history later x ≡ patched (between history place later) (memory_at w history place) x }
+    ensures newer { (w : Setting) (later older : List Entry) (x : ℕ)
+        → memory_after w (reverse later ++ older) x ≡ patched later (memory_after w older) x }
 {}
