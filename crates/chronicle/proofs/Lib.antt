@@ -7,3 +7,4 @@ pub mod Windows
 pub mod Copies
 pub mod Memories
 pub mod Own
+pub mod Breaks

@@ -1,8 +1,11 @@
 -- What the laws say: memory that goes on from an earlier place, the first break of a rule, and a pass as the
 -- measurer follows it.
-use Rattle.std.specs.Prelude.{ℕ, List, [], ◌∷◌, take, drop, unwrap_or}
+use Rattle.std.specs.Prelude.{◌≡◌, ℕ, ◌-◌, ◌≤◌, List, [], ◌∷◌, length, take, drop, slice_get, Some, unwrap_or}
 use Rattle.history.specs.declared.events.Entry.{Entry}
-use Rattle.history.specs.Memory.{Memory, put_at}
+use Rattle.history.specs.Layout.{Setting}
+use Rattle.history.specs.Memory.{Memory, back, put_at}
+use Rattle.history.specs.Legal.{IsLegal}
+use Rattle.history.specs.Broken.{Break, broken_rule}
 
 -- memory once the entry has come
 abbrev pub stored : Entry → Memory → Memory
@@ -16,3 +19,13 @@ patched (entry ∷ later) m = patched later (stored entry m)
 -- the entries between two places, the oldest first
 abbrev pub between : List Entry → ℕ → ℕ → List Entry
 between history place later = drop place (take later history)
+
+-- The history is legal before this place; the entry that it has there, the place-th, breaks this rule, and
+-- no lesser one.
+pub record IsFirstBreak (w : Setting) (history : List Entry) (b : Break) : Type 0 where
+  pub from : 1 ≤ b.place
+  pub within : b.place ≤ length history
+  pub before : IsLegal w (take (b.place - 1) history)
+  pub entry : Entry
+  pub here : slice_get history (b.place - 1) ≡ Some entry
+  pub rule : broken_rule w (back history (b.place - 1)) entry ≡ Some b.rule

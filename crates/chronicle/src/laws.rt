@@ -1,13 +1,14 @@
 //! The laws of a history.
 
-ghost use Rattle.std.specs.Prelude.{◌≡◌, ℕ, ◌+◌, ◌^◌, ◌<◌, ◌≤◌, ◌⊎◌, List, [], ◌∷◌, ◌++◌, length, reverse, All, slice_get, take, Some};
+ghost use Rattle.std.specs.Prelude.{◌≡◌, ℕ, ◌+◌, ◌^◌, ◌<◌, ◌≤◌, ◌⊎◌, ◌↔◌, List, [], ◌∷◌, ◌++◌, length, reverse, All, slice_get, take, Some, None};
 ghost use Rattle.history.specs.declared.events.Width.{Width};
 ghost use Rattle.history.specs.declared.events.Entry.{Entry};
 ghost use Rattle.history.specs.Layout.{Setting, IsSetting, width_bytes};
 ghost use Rattle.history.specs.Memory.{Memory, back, memory_after, memory_at, own, value_in};
 ghost use Rattle.history.specs.Legal.{IsLegal, MayFollow};
+ghost use Rattle.history.specs.Broken.{Break, broken, broken_rule};
 ghost use Rattle.history.specs.Sliding.{LocksSlide, CopiedIsMemory};
-ghost use Rattle.chronicle.specs.Laws.{between, patched, stored};
+ghost use Rattle.chronicle.specs.Laws.{IsFirstBreak, between, patched, stored};
 
 /// While a pass runs, a block that is still to be copied has the bytes of Start, where the discipline locks
 /// from Start on, and a copied block that is still locked has the bytes of its own Copy.
@@ -85,4 +86,15 @@ pub fn memory_later()
         → (x : ℕ) → memory_at w history later x ≡ patched (between history place later) (memory_at w history place) x }
     ensures newer { (w : Setting) (later older : List Entry) (x : ℕ)
         → memory_after w (reverse later ++ older) x ≡ patched later (memory_after w older) x }
+{}
+
+/// The first break of a rule: there is none exactly where the history is legal, and else it is the place up
+/// to which the history is legal before, and the least rule that the entry there breaks. Each rule is a
+/// test that computes, and no test fails exactly where the entry may follow.
+pub fn broken_is_exact()
+    ensures none { (w : Setting) (history : List Entry) → (broken w history ≡ None) ↔ IsLegal w history }
+    ensures first { (w : Setting) (history : List Entry) (b : Break)
+        → (broken w history ≡ Some b) ↔ IsFirstBreak w history b }
+    ensures rules { (w : Setting) (past : List Entry) (entry : Entry)
+        → (broken_rule w past entry ≡ None) ↔ MayFollow w past entry }
 {}

@@ -7,6 +7,6 @@
 mod laws;
 
 pub use laws::{
-    copied_is_memory, locks_slide, memory_is_bytes, memory_later, one_entry_more, own_entries,
-    places_of_a_history, prefixes_are_legal,
+    broken_is_exact, copied_is_memory, locks_slide, memory_is_bytes, memory_later, one_entry_more,
+    own_entries, places_of_a_history, prefixes_are_legal,
 };
