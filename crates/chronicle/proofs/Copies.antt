@@ -1,6 +1,6 @@
 -- At each instant of a pass each attested block has the bytes of its Copy.
 use Rattle.std.proofs.Common.{◌≡◌, ℕ, suc, ◌+◌, ◌<◌, ◌≤◌, Bool, true, false, not, List, [], ◌∷◌, ◌++◌, Some, refl, sym, ap, ◌∙◌, subst, inl, inr, arith}
-use Rattle.std.specs.Prelude.{◌&&◌, IsTrue, nat_lt, if◌then◌else◌, unwrap_or}
+use Rattle.std.specs.Prelude.{◌&&◌, IsTrue, nat_lt, if◌then◌else◌}
 use Rattle.std.specs.List.{list_any}
 use Rattle.std.proofs.lemmas.Bool.{cases_lt, or_left, false≢true, lt-ltb}
 use Rattle.history.specs.declared.events.Discipline.{Discipline}
@@ -19,7 +19,7 @@ use Rattle.chronicle.proofs.Passes.{in_turn}
 use Rattle.chronicle.proofs.Slide.{slides, index_fits, not_copied, up_to_same}
 use Rattle.chronicle.proofs.Places.{legal_back}
 use Rattle.chronicle.proofs.Bytes.{HasCopies, blocks_from, copied_are}
-use Rattle.chronicle.proofs.Windows.{opened_is, starts_before, was_at, some_later, closed_at, end_order, end_puts, followed, end_window, release_window}
+use Rattle.chronicle.proofs.Windows.{opened_is, starts_before, was_at, some_later, closed_at, closed_same, end_order, end_puts, followed, end_window, release_window}
 
 -- when each discipline locks
 lock_all : (form : Discipline) → form ≡ All → (copied : ℕ) (ended released : Bool) (index : ℕ) → ended ≡ false → IsTrue (locks form copied ended released index)
@@ -35,7 +35,7 @@ lock_inc_ext : (form : Discipline) → form ≡ IncExt → (copied : ℕ) (ended
 lock_inc_ext form is copied ended released index none below = ap (λ f. locks f copied ended released index) is ∙ ap (λ b. not b && nat_lt index copied) none ∙ lt-ltb index copied below
 
 -- the newest entry is among the entries
-newest_any : (test : Act → Bool) (since : List Entry) → IsTrue (is_newest test since) → IsTrue (list_any (λ entry. test entry.act) since)
+pub newest_any : (test : Act → Bool) (since : List Entry) → IsTrue (is_newest test since) → IsTrue (list_any (λ entry. test entry.act) since)
 newest_any test [] newest = absurd (false≢true newest)
 newest_any test (entry ∷ since) newest = or_left (test entry.act) _ newest
 
@@ -44,21 +44,21 @@ newest_one : (since : List Entry) → IsTrue (is_newest is_end since) → IsTrue
 newest_one [] ends releases = absurd (false≢true ends)
 newest_one (entry ∷ since) ends releases = absurd (false≢true (sym (end_puts entry.act ends 0).2 ∙ releases))
 
-module _ (w : Setting) (v : IsSetting w) (history : List Entry) (legal : IsLegal w history) (form : Discipline) (number start end : ℕ) (e : EndsAt history form number start end) where
-  -- a pass that has ended has copied every attested block
-  all_copied : (place : ℕ) (pass : Pass) → IsPassAt history form number start place pass → IsTrue (is_ended pass) → copied_of pass ≡ w.attested
-  all_copied place pass here over = (in_turn w (back history place) (legal_back w history legal place) pass here.last).whole over
+-- a pass that has ended has copied every attested block
+pub all_copied : (w : Setting) (history : List Entry) → IsLegal w history → (form : Discipline) (number start place : ℕ) (pass : Pass) → IsPassAt history form number start place pass → IsTrue (is_ended pass) → copied_of pass ≡ w.attested
+all_copied w history legal form number start place pass here over = (in_turn w (back history place) (legal_back w history legal place) pass here.last).whole over
 
+module _ (w : Setting) (v : IsSetting w) (history : List Entry) (legal : IsLegal w history) (form : Discipline) (number start end : ℕ) (e : EndsAt history form number start end) where
   -- what is copied is any memory that has the bytes of each Copy
   copied_from : (m : Memory) → HasCopies w m (back history end) w.attested → attested_bytes w m ≡ copied_bytes w (back history end)
   copied_from m has =
-      let count = all_copied end e.pass e.here (newest_any is_end e.pass.since e.newest) in
+      let count = all_copied w history legal form number start end e.pass e.here (newest_any is_end e.pass.since e.newest) in
       ap (blocks_from w m) (sym count) ∙ copied_are w m (back history end) (legal_back w history legal end) e.pass e.here.last (subst (λ n. HasCopies w m (back history end) n) (sym count) has)
 
   -- where the discipline locks from Start on, each block had the bytes of Start at its Copy
   copies_of_start : IsTrue (locks_at_start form) → (place : ℕ) → ((block : ℕ) → IsTrue (is_attested w block) → SameBlock w block (back history place) (back history start)) → HasCopies w (memory_at w history place) (back history end) w.attested
   copies_of_start begins place same =
-      let count = all_copied end e.pass e.here (newest_any is_end e.pass.since e.newest) in
+      let count = all_copied w history legal form number start end e.pass e.here (newest_any is_end e.pass.since e.newest) in
       let s = slides w v (back history end) (legal_back w history legal end) e.pass e.here.last in
       let begins' = subst (λ f. IsTrue (locks_at_start f)) (sym e.here.discipline) begins in
       let opened = opened_is history form number start end e.pass e.here in
@@ -120,8 +120,8 @@ still_copied w v history legal form number start end e at pass now after =
     let over = newest_any is_end e.pass.since e.newest in
     let over' : IsTrue (is_ended was.earlier) = subst (λ p. IsTrue (is_ended p)) same over in
     let over_now : IsTrue (is_ended pass) = some_later (λ entry. is_end entry.act) was.newer was.earlier.since pass.since was.since over' in
-    let count = all_copied w v history legal form number start end e at pass now over_now in
-    let count' = all_copied w v history legal form number start end e end was.earlier was.here over' in
+    let count = all_copied w history legal form number start at pass now over_now in
+    let count' = all_copied w history legal form number start end was.earlier was.here over' in
     let total : copies_in was.newer + copied_of was.earlier ≡ copied_of pass = sym (copies_in-append was.newer was.earlier.since) ∙ ap copies_in was.since in
     let none : copies_in was.newer ≡ 0 = omega (arith, total, count, count') in
     record {
@@ -151,7 +151,8 @@ copied_at w v history legal Inc number start end release e r place instant =
     let o = end_order w c.entry.act c.earlier c.kind (followed w history legal end c.before c.entry c.earlier c.whole c.here.last) in
     let locked = λ (index : ℕ) (below : index < copied_of c.earlier). lock_inc c.earlier.discipline c.here.discipline (copied_of c.earlier) (is_ended c.earlier) (is_released c.earlier) index o.0 below in
     let kept = kept_bytes w v history legal Inc number start end e c.before c.earlier c.here o.1 locked in
-    let same : (x : ℕ) → memory_at w history place x ≡ memory_at w history c.before x = λ x. ap (λ p. memory_at w history p x) instant ∙ ap (λ l. memory_after w l x) c.whole ∙ ap (λ o. unwrap_or o (memory_after w (back history c.before) x)) (end_puts c.entry.act c.kind x).0 in
+    let puts = λ (x : ℕ). (end_puts c.entry.act c.kind x).0 in
+    let same = λ (x : ℕ). ap (λ p. memory_at w history p x) instant ∙ closed_same w history Inc number start end e.pass is_end c puts x in
     let last = λ (block : ℕ). ap (up_to_copy block) c.whole ∙ up_to_same block c.entry (back history c.before) (not_copied block c.entry.act (end_puts c.entry.act c.kind 0).1) in
     copied_from w v history legal Inc number start end e (memory_at w history place) (record {
       each = λ block attested index x low here.

@@ -8,3 +8,4 @@ pub mod Copies
 pub mod Memories
 pub mod Own
 pub mod Breaks
+pub mod Others

@@ -145,6 +145,11 @@ followed w history legal place before entry earlier whole was =
     let both = subst (λ l. IsLegalBack w l) whole (legal_back w history legal place) in
     subst (λ b. IsTrue (in_order w b entry.act)) was both.1.order
 
+-- an entry that puts no byte leaves memory as it was
+pub closed_same : (w : Setting) (history : List Entry) (form : Discipline) (number start close : ℕ) (pass : Pass) (test : Act → Bool) → (c : ClosedAt history form number start close pass test) → ((x : ℕ) → put_at c.entry.act x ≡ None) → (x : ℕ) → memory_at w history close x ≡ memory_at w history c.before x
+closed_same w history form number start close pass test c puts x =
+    ap (λ l. memory_after w l x) c.whole ∙ ap (λ o. unwrap_or o (memory_after w (back history c.before) x)) (puts x)
+
 -- memory at this place is memory at an earlier one, where the pass is as told
 pub record Window (w : Setting) (history : List Entry) (form : Discipline) (number start low place : ℕ) (test : Act → Bool) : Type 0 where
   pub at : ℕ
@@ -175,7 +180,7 @@ closed_window w history form number start low close pass test c none puts from l
             pass = c.earlier;
             here = c.here;
             none = none;
-            same = λ x. ap (λ p. memory_at w history p x) at_close ∙ ap (λ l. memory_after w l x) c.whole ∙ ap (λ o. unwrap_or o (memory_after w (back history c.before) x)) (puts x);
+            same = λ x. ap (λ p. memory_at w history p x) at_close ∙ closed_same w history form number start close pass test c puts x;
           }
     ]
 

@@ -1,10 +1,12 @@
 -- What the laws say: memory that goes on from an earlier place, the first break of a rule, and a pass as the
 -- measurer follows it.
-use Rattle.std.specs.Prelude.{◌≡◌, ℕ, ◌-◌, ◌≤◌, List, [], ◌∷◌, length, take, drop, slice_get, Some, unwrap_or}
+use Rattle.std.specs.Prelude.{◌≡◌, ℕ, ◌-◌, ◌≤◌, List, [], ◌∷◌, length, reverse, take, drop, slice_get, Some, unwrap_or}
 use Rattle.history.specs.declared.events.Entry.{Entry}
 use Rattle.history.specs.Layout.{Setting}
 use Rattle.history.specs.Memory.{Memory, back, put_at}
+use Rattle.history.specs.Pass.{Pass, pass_after, copied_of, is_ended, is_released}
 use Rattle.history.specs.Legal.{IsLegal}
+use Rattle.history.specs.Copied.{copied_bytes}
 use Rattle.history.specs.Broken.{Break, broken_rule}
 
 -- memory once the entry has come
@@ -29,3 +31,19 @@ pub record IsFirstBreak (w : Setting) (history : List Entry) (b : Break) : Type 
   pub entry : Entry
   pub here : slice_get history (b.place - 1) ≡ Some entry
   pub rule : broken_rule w (back history (b.place - 1)) entry ≡ Some b.rule
+
+-- The same pass, as far as its measurer has come: only entries of others are new.
+pub record SamePass (old new : Pass) : Type 0 where
+  pub discipline : new.discipline ≡ old.discipline
+  pub counter : new.counter ≡ old.counter
+  pub opened : new.opened ≡ old.opened
+  pub copied : copied_of new ≡ copied_of old
+  pub ended : is_ended new ≡ is_ended old
+  pub released : is_released new ≡ is_released old
+
+-- from one history to a longer one the pass stays as it was, and so do the bytes that it has copied
+pub record KeepsPass (w : Setting) (old new : List Entry) (pass : Pass) : Type 0 where
+  pub now : Pass
+  pub last : pass_after (reverse new) ≡ Some now
+  pub same : SamePass pass now
+  pub bytes : copied_bytes w (reverse new) ≡ copied_bytes w (reverse old)

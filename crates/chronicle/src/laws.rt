@@ -1,14 +1,19 @@
 //! The laws of a history.
 
-ghost use Rattle.std.specs.Prelude.{◌≡◌, ℕ, ◌+◌, ◌^◌, ◌<◌, ◌≤◌, ◌⊎◌, ◌↔◌, List, [], ◌∷◌, ◌++◌, length, reverse, All, slice_get, take, Some, None};
+ghost use Rattle.std.specs.Prelude.{◌≡◌, ℕ, ◌+◌, ◌^◌, ◌<◌, ◌≤◌, ◌⊎◌, ◌↔◌, List, [], ◌∷◌, ◌++◌, length, reverse, All, slice_get, take, false, Some, None};
 ghost use Rattle.history.specs.declared.events.Width.{Width};
+ghost use Rattle.history.specs.declared.events.Discipline.{Discipline};
+ghost use Rattle.history.specs.declared.events.Act.TheVariants.{End, Release};
 ghost use Rattle.history.specs.declared.events.Entry.{Entry};
 ghost use Rattle.history.specs.Layout.{Setting, IsSetting, width_bytes};
 ghost use Rattle.history.specs.Memory.{Memory, back, memory_after, memory_at, own, value_in};
+ghost use Rattle.history.specs.Pass.{Pass, copied_of, is_released, pass_after, pass_step, start_of};
 ghost use Rattle.history.specs.Legal.{IsLegal, MayFollow};
 ghost use Rattle.history.specs.Broken.{Break, broken, broken_rule};
+ghost use Rattle.history.specs.Copied.{copied_bytes, copied_step};
+ghost use Rattle.history.specs.Instants.{EndsAt, ReleasesAt};
 ghost use Rattle.history.specs.Sliding.{LocksSlide, CopiedIsMemory};
-ghost use Rattle.chronicle.specs.Laws.{IsFirstBreak, between, patched, stored};
+ghost use Rattle.chronicle.specs.Laws.{IsFirstBreak, KeepsPass, between, patched, stored};
 
 /// While a pass runs, a block that is still to be copied has the bytes of Start, where the discipline locks
 /// from Start on, and a copied block that is still locked has the bytes of its own Copy.
@@ -97,4 +102,38 @@ pub fn broken_is_exact()
         → (broken w history ≡ Some b) ↔ IsFirstBreak w history b }
     ensures rules { (w : Setting) (past : List Entry) (entry : Entry)
         → (broken_rule w past entry ≡ None) ↔ MayFollow w past entry }
+{}
+
+/// What the measurer knows of its pass stays true while others make their entries: where no new entry is
+/// actor 0's, the pass is the same, with the same copies, and where there was none there is none. Others only
+/// fetch, load and store, by the rule on actors.
+pub fn others_keep_the_pass()
+    ensures pass { (w : Setting) (history others : List Entry) → IsLegal w (history ++ others) → own others 0 1 ≡ []
+        → (pass : Pass) → pass_after (reverse history) ≡ Some pass → KeepsPass w history (history ++ others) pass }
+    ensures none { (w : Setting) (history others : List Entry) → IsLegal w (history ++ others) → own others 0 1 ≡ []
+        → pass_after (reverse history) ≡ None → pass_after (reverse (history ++ others)) ≡ None }
+{}
+
+/// What shows the instants of a pass to one who has followed it: how an entry of one's own changes the pass
+/// and its bytes, where the pass's End and Release stand, however the history goes on, and that a pass that
+/// has ended copied every attested block after its Start.
+pub fn places_of_a_pass()
+    ensures step { (history : List Entry) (entry : Entry) → pass_after (reverse (history ++ entry ∷ []))
+        ≡ pass_step entry.act entry (reverse history) (pass_after (reverse history)) }
+    ensures bytes { (w : Setting) (history : List Entry) (entry : Entry) → copied_bytes w (reverse (history ++ entry ∷ []))
+        ≡ copied_step w entry.act (reverse history) (copied_bytes w (reverse history)) }
+
+    ensures ends { (history : List Entry) (entry : Entry) (more : List Entry) (pass : Pass)
+        → pass_after (reverse history) ≡ Some pass → entry.act ≡ End
+        → EndsAt (history ++ entry ∷ more) pass.discipline pass.counter (start_of pass) (length history + 1) }
+    ensures end_bytes { (w : Setting) (history : List Entry) (entry : Entry) (more : List Entry) → entry.act ≡ End
+        → copied_bytes w (back (history ++ entry ∷ more) (length history + 1)) ≡ copied_bytes w (reverse history) }
+    ensures releases { (history : List Entry) (entry : Entry) (more : List Entry) (pass : Pass)
+        → pass_after (reverse history) ≡ Some pass → entry.act ≡ Release
+        → ReleasesAt (history ++ entry ∷ more) pass.discipline pass.counter (start_of pass) (length history + 1) }
+    ensures unreleased { (history : List Entry) (pass : Pass) → pass_after (reverse history) ≡ Some pass
+        → is_released pass ≡ false → ReleasesAt history pass.discipline pass.counter (start_of pass) (length history) }
+
+    ensures whole { (w : Setting) (history : List Entry) → IsLegal w history → (form : Discipline) (number start end : ℕ)
+        → (e : EndsAt history form number start end) → (copied_of e.pass ≡ w.attested) × (start < end) }
 {}

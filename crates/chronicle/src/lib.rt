@@ -8,5 +8,5 @@ mod laws;
 
 pub use laws::{
     broken_is_exact, copied_is_memory, locks_slide, memory_is_bytes, memory_later, one_entry_more,
-    own_entries, places_of_a_history, prefixes_are_legal,
+    others_keep_the_pass, own_entries, places_of_a_history, places_of_a_pass, prefixes_are_legal,
 };
