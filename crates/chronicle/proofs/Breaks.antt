@@ -16,6 +16,7 @@ use Rattle.chronicle.proofs.Places.{length_back, back_all, back_older, back_more
 abbrev first_false : Bool → Bool → Bool → Bool → Bool → Bool → Option ℕ
 first_false a b c d e f = if not a then Some 1 else (if not b then Some 2 else (if not c then Some 3 else (if not d then Some 4 else (if not e then Some 5 else (if f then None else Some 6)))))
 
+-- no number means that all hold
 all_true : (a b c d e f : Bool) → first_false a b c d e f ≡ None → IsTrue a × IsTrue b × IsTrue c × IsTrue d × IsTrue e × IsTrue f
 all_true true true true true true true h = (refl, refl, refl, refl, refl, refl)
 all_true false b c d e f h = absurd cc
@@ -25,6 +26,7 @@ all_true true true true false e f h = absurd cc
 all_true true true true true false f h = absurd cc
 all_true true true true true true false h = absurd cc
 
+-- and the other way round
 none_false : (a b c d e f : Bool) → IsTrue a → IsTrue b → IsTrue c → IsTrue d → IsTrue e → IsTrue f → first_false a b c d e f ≡ None
 none_false a b c d e f ha hb hc hd he hf = rw (ha, hb, hc, hd, he, hf) refl
 
@@ -47,6 +49,7 @@ may_follow w past entry =
 abbrev break_at : List Entry → ℕ → Break
 break_at past rule = record { place = suc (length past); rule = rule }
 
+-- no earlier break of two means neither
 none_earlier : (first : Option Break) (past : List Entry) (rule : Option ℕ) → earlier first (option_map (break_at past) rule) ≡ None → (first ≡ None) × (rule ≡ None)
 none_earlier None past None h = (refl, refl)
 none_earlier None past (Some rule) h = absurd cc
@@ -59,6 +62,7 @@ unbroken_legal w (entry ∷ past) h =
     let n = none_earlier (broken_back w past) past (broken_rule w past entry) h in
     (unbroken_legal w past n.0, (may_follow w past entry).0 n.1)
 
+-- and the other way round
 pub legal_unbroken : (w : Setting) (past : List Entry) → IsLegalBack w past → broken_back w past ≡ None
 legal_unbroken w [] legal = refl
 legal_unbroken w (entry ∷ past) legal =
@@ -75,6 +79,7 @@ record BreaksBack (w : Setting) (past : List Entry) (b : Break) : Type 0 where
   place : b.place ≡ suc (length older)
   rule : broken_rule w older entry ≡ Some b.rule
 
+-- what the newest entry adds to the search
 found_step : (w : Setting) (entry : Entry) (past : List Entry) (b : Break) (first : Option Break) (rule : Option ℕ) → broken_back w past ≡ first → broken_rule w past entry ≡ rule → earlier first (option_map (break_at past) rule) ≡ Some b → ((found : Break) → broken_back w past ≡ Some found → BreaksBack w past found) → BreaksBack w (entry ∷ past) b
 found_step w entry past b (Some found) rule was breaks h before =
     let same : found ≡ b = cc in
@@ -85,6 +90,7 @@ found_step w entry past b None (Some rule) was breaks h before =
     let same : break_at past rule ≡ b = cc in
     subst (λ f. BreaksBack w (entry ∷ past) f) same (record { newer = []; entry = entry; older = past; whole = refl; legal = unbroken_legal w past was; place = refl; rule = breaks })
 
+-- what is found is a break after legal entries
 found_back : (w : Setting) (past : List Entry) (b : Break) → broken_back w past ≡ Some b → BreaksBack w past b
 found_back w [] b h = absurd cc
 found_back w (entry ∷ past) b h = found_step w entry past b (broken_back w past) (broken_rule w past entry) refl refl h (λ found was. found_back w past found was)

@@ -22,6 +22,7 @@ image_byte image bytes i =
       | inr past ↦ subst (λ byte. byte < 256) (sym (get_or_past image i 0 past)) (omega arith)
     ]
 
+-- what a store puts is a remainder by 256
 put_byte : (covered : Bool) (value place old : ℕ) → old < 256 → unwrap_or (if covered then Some (value / 256 ^ place % 256) else None) old < 256
 put_byte true value place old h = mod-lt (value / 256 ^ place) (omega arith)
 put_byte false value place old h = h

@@ -27,6 +27,7 @@ record IsBeside (w : Setting) (actor : ℕ) (act : Act) (past : List Entry) : Ty
   end : is_end act ≡ false
   release : is_release act ≡ false
 
+-- each access is beside the pass
 access_beside : (w : Setting) (actor : ℕ) (act : Act) (past : List Entry) → IsTrue (is_access act) → IsBeside w actor act past
 access_beside w actor (Fetch addr value) past is = record { step = λ _. refl; bytes = λ _. refl; copy = refl; end = refl; release = refl }
 access_beside w actor (Load addr width value) past is = record { step = λ _. refl; bytes = λ _. refl; copy = refl; end = refl; release = refl }
@@ -53,6 +54,7 @@ first_other : (mine : Bool) (entry : Entry) (rest : List Entry) → cond mine (e
 first_other true entry rest h = absurd cc
 first_other false entry rest h = (refl, h)
 
+-- an actor that is not the measurer is 1 or more
 application_of : (entry : Entry) → (nat_le 0 entry.actor && nat_lt entry.actor 1) ≡ false → 1 ≤ entry.actor
 application_of entry other =
     elim (cases_lt entry.actor 1) [
@@ -71,6 +73,7 @@ same_longer entry pass copy end release = record {
   released = ap (λ b. b || is_released pass) release;
 }
 
+-- over two steps
 same_trans : (a b c : Pass) → SamePass a b → SamePass b c → SamePass a c
 same_trans a b c ab bc = record {
   discipline = bc.discipline ∙ ab.discipline;
@@ -89,6 +92,7 @@ record OneOther (w : Setting) (history : List Entry) (entry : Entry) (others : L
   whole : (history ++ entry ∷ []) ++ others ≡ history ++ entry ∷ others
   turned : reverse (history ++ entry ∷ []) ≡ entry ∷ reverse history
 
+-- they are cut apart
 one_other : (w : Setting) (history : List Entry) (entry : Entry) (others : List Entry) → IsLegal w (history ++ entry ∷ others) → own (entry ∷ others) 0 1 ≡ [] → OneOther w history entry others
 one_other w history entry others legal none =
     let f = first_other (nat_le 0 entry.actor && nat_lt entry.actor 1) entry (own others 0 1) none in
@@ -130,6 +134,7 @@ keeps_none w history (entry ∷ others) legal none last =
 pub pass_more : (history : List Entry) (entry : Entry) → pass_after (reverse (history ++ entry ∷ [])) ≡ pass_step entry.act entry (reverse history) (pass_after (reverse history))
 pass_more history entry = ap pass_after (reverse_more history entry)
 
+-- and what it has copied then
 pub bytes_more : (w : Setting) (history : List Entry) (entry : Entry) → copied_bytes w (reverse (history ++ entry ∷ [])) ≡ copied_step w entry.act (reverse history) (copied_bytes w (reverse history))
 bytes_more w history entry = ap (copied_bytes w) (reverse_more history entry)
 
@@ -144,6 +149,7 @@ back_at history entry more =
     ∙ back_all front
     ∙ reverse_more history entry
 
+-- a pass that goes on with this entry is there
 pass_at : (history : List Entry) (entry : Entry) (more : List Entry) (pass : Pass) → pass_after (reverse history) ≡ Some pass → pass_step entry.act entry (reverse history) (pass_after (reverse history)) ≡ option_map (longer entry) (pass_after (reverse history)) → IsPassAt (history ++ entry ∷ more) pass.discipline pass.counter (start_of pass) (length history + 1) (longer entry pass)
 pass_at history entry more pass last step = record {
   within = omega (arith, length-append history (entry ∷ more));

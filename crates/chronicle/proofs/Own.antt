@@ -10,6 +10,7 @@ use Rattle.history.specs.Memory.{own}
 abbrev pub in_actors : ℕ → ℕ → Entry → Bool
 in_actors low high entry = nat_le low entry.actor && nat_lt entry.actor high
 
+-- the entries of two lists in a row
 pub own-append : (a b : List Entry) (low high : ℕ) → own (a ++ b) low high ≡ own a low high ++ own b low high
 own-append a b low high = filter-append (in_actors low high) a b
 
@@ -41,6 +42,7 @@ inner low high from upto below above entry h =
     let p = and_parts (nat_le from entry.actor) _ h in
     and_from (nat_le low entry.actor) _ (le-leb _ _ (omega (arith, leb-true _ _ p.0))) (lt-ltb _ _ (omega (arith, ltb-true _ _ p.1)))
 
+-- the newest entry is kept by both filters or by neither, or by the outer alone
 within_step : (outer inside : Bool) (entry : Entry) (low high from upto : ℕ) (history : List Entry) → (IsTrue inside → IsTrue outer) → in_actors from upto entry ≡ inside → own (own history low high) from upto ≡ own history from upto → own (cond outer (entry ∷ own history low high) (own history low high)) from upto ≡ cond inside (entry ∷ own history from upto) (own history from upto)
 within_step true inside entry low high from upto history implies is rest = ap₂ (λ b l. cond b (entry ∷ l) l) is rest
 within_step false true entry low high from upto history implies is rest = absurd (false≢true (implies refl))

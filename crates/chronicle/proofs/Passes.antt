@@ -37,10 +37,12 @@ pub record GoesOn (entry : Entry) (before : Option Pass) (pass : Pass) : Type 0 
   pub was : before ≡ Some earlier
   pub now : longer entry earlier ≡ pass
 
+-- a pass that is there with an entry more was there before
 goes_on : (entry : Entry) (before : Option Pass) (pass : Pass) → is_start entry.act ≡ false → option_map (longer entry) before ≡ Some pass → GoesOn entry before pass
 goes_on entry None pass runs h = absurd cc
 goes_on entry (Some earlier) pass runs h = record { runs = runs; earlier = earlier; was = refl; now = cc }
 
+-- what each act does to a pass
 step_cases : (actor : ℕ) (act : Act) (past : List Entry) (before : Option Pass) (pass : Pass) → pass_step act (entry_of actor act) past before ≡ Some pass → Opens (entry_of actor act) past pass ⊎ GoesOn (entry_of actor act) before pass
 step_cases actor (Start discipline counter) past before pass h =
     let same : record { discipline = discipline; counter = counter; since = []; opened = entry_of actor (Start discipline counter) ∷ past } ≡ pass = cc in
@@ -95,6 +97,7 @@ pub record Closes (test : Act → Bool) (past : List Entry) (pass : Pass) : Type
   pub kind : IsTrue (test entry.act)
   pub on : GoesOn entry (pass_after before) pass
 
+-- it is the entry with which the pass went on
 pub closes : (test : Act → Bool) (past : List Entry) (pass : Pass) → pass_after past ≡ Some pass → IsTrue (is_newest test pass.since) → Closes test past pass
 closes test [] pass h newest = absurd cc
 closes test (entry ∷ past) pass h newest =
@@ -108,6 +111,7 @@ pub record InTurn (w : Setting) (pass : Pass) : Type 0 where
   pub whole : IsTrue (is_ended pass) → copied_of pass ≡ w.attested
   pub ended : IsTrue (is_released pass) → IsTrue (is_ended pass)
 
+-- the order rule keeps this
 in_turn_on : (w : Setting) (actor : ℕ) (act : Act) (earlier : Pass) → InTurn w earlier → IsTrue (in_order w (Some earlier) act) → InTurn w (longer (entry_of actor act) earlier)
 in_turn_on w actor (Fetch addr value) earlier t o = record { whole = t.whole; ended = t.ended }
 in_turn_on w actor (Load addr width value) earlier t o = record { whole = t.whole; ended = t.ended }
@@ -146,6 +150,7 @@ locks_past_end Dec copied ended released index h = absurd (false≢true h)
 locks_past_end Inc copied ended released index h = absurd (false≢true h)
 locks_past_end IncExt copied ended released index h = h
 
+-- the same of Release
 pub locks_past_release : (form : Discipline) (copied : ℕ) (ended released : Bool) (index : ℕ) → IsTrue (locks form copied ended true index) → IsTrue (locks form copied ended released index)
 locks_past_release All copied ended released index h = h
 locks_past_release AllExt copied ended released index h = absurd (false≢true h)

@@ -10,16 +10,9 @@ use Rattle.history.specs.Memory.{memory_after}
 use Rattle.history.specs.Pass.{Pass, longer, pass_after, copied_of, copies_in, is_ended, is_released, is_copy}
 use Rattle.history.specs.Locks.{pass_locks, locks_now, is_locked}
 use Rattle.history.specs.Legal.{MayFollow, IsLegalBack, in_order}
-use Rattle.history.specs.Sliding.{SameBlock, Slides, up_to_copy, copies_block, locks_at_start}
+use Rattle.history.specs.Sliding.{Slides, up_to_copy, copies_block, locks_at_start}
 use Rattle.chronicle.proofs.Stores.{locked_stays}
 use Rattle.chronicle.proofs.Passes.{entry_of, Opens, pass_cases, InTurn, in_turn, locks_past_end, locks_past_release, locks_past_copy, locks_waiting}
-
--- a block of which one has the bytes of the second, and the second those of the third
-pub same_trans : (w : Setting) (block : ℕ) (a b c : List Entry) → SameBlock w block a b → SameBlock w block b c → SameBlock w block a c
-same_trans w block a b c ab bc = λ x low here. ab x low here ∙ bc x low here
-
-pub same_sym : (w : Setting) (block : ℕ) (a b : List Entry) → SameBlock w block a b → SameBlock w block b a
-same_sym w block a b ab = λ x low here. sym (ab x low here)
 
 -- the index of an attested block is below the number of attested blocks
 pub index_fits : (w : Setting) (block : ℕ) → IsTrue (is_attested w block) → index_of w block < w.attested
@@ -131,7 +124,7 @@ slides_new w entry past pass o =
       kept = λ block attested copied locked. absurd (omega (arith, none, copied));
     }
 
--- what an act that copies is
+-- any entry that may follow, with which the pass goes on
 slides_act : (w : Setting) → IsSetting w → (past : List Entry) (actor : ℕ) (act : Act) → MayFollow w past (entry_of actor act) → (earlier : Pass) → pass_after past ≡ Some earlier → InTurn w earlier → IsTrue (in_order w (Some earlier) act) → Slides w past earlier → Slides w (entry_of actor act ∷ past) (longer (entry_of actor act) earlier)
 slides_act w v past actor (Copy copy) may p is turn order s = slides_copy w past actor copy p (eqb-true _ _ (and_parts _ _ order).1) s
 slides_act w v past actor (Fetch addr value) may p is turn order s = slides_on w v past (entry_of actor (Fetch addr value)) may p is turn refl s

@@ -53,6 +53,7 @@ width_divides l v Byte = (l.size, omega arith)
 width_divides l v Half = let f = four_divides l v in (2 * f.0, omega (arith, f.1))
 width_divides l v Word = four_divides l v
 
+-- an access has at least one byte
 width_pos : (width : Width) → 0 < width_bytes width
 width_pos Byte = omega arith
 width_pos Half = omega arith
@@ -78,8 +79,8 @@ stays w v (Store addr width value) past range lock block locked x here old =
     elim (cases_Bool (covers addr width x)) [
       | inl covered ↦
           let same : block_of w.layout addr ≡ block = sym (covered_block w.layout v.layout addr width x range covered) ∙ here in
-          let open' = not-true _ lock in
-          absurd (false≢true (sym open' ∙ ap (λ b. is_locked w past b) same ∙ locked))
+          let unlocked = not-true _ lock in
+          absurd (false≢true (sym unlocked ∙ ap (λ b. is_locked w past b) same ∙ locked))
       | inr beside ↦ unput _ _ old beside
     ]
 stays w v (Fetch addr value) past range lock block locked x here old = refl

@@ -95,7 +95,7 @@ closed_at test history form number start place pass here newest =
       now = now;
     }
 
--- what an End and a Release are
+-- an End comes once every block is copied, and no second one
 pub end_order : (w : Setting) (act : Act) (pass : Pass) → IsTrue (is_end act) → IsTrue (in_order w (Some pass) act) → (is_ended pass ≡ false) × (copied_of pass ≡ w.attested)
 end_order w End pass is order = let o = and_parts (not (is_ended pass)) (copied_of pass == w.attested) order in (not-true _ o.0, eqb-true _ _ o.1)
 end_order w (Fetch addr value) pass is order = absurd (false≢true is)
@@ -106,6 +106,7 @@ end_order w (Copy block) pass is order = absurd (false≢true is)
 end_order w Tick pass is order = absurd (false≢true is)
 end_order w Release pass is order = absurd (false≢true is)
 
+-- a Release comes after End, and no second one
 pub release_order : (w : Setting) (act : Act) (pass : Pass) → IsTrue (is_release act) → IsTrue (in_order w (Some pass) act) → (is_released pass ≡ false) × (is_ended pass ≡ true)
 release_order w Release pass is order =
     let o = and_parts (is_extended pass.discipline && is_ended pass) (not (is_released pass)) order in
@@ -118,7 +119,7 @@ release_order w (Copy block) pass is order = absurd (false≢true is)
 release_order w End pass is order = absurd (false≢true is)
 release_order w Tick pass is order = absurd (false≢true is)
 
--- neither puts a byte, copies a block or is the other
+-- an End puts no byte, copies no block and is no Release
 pub end_puts : (act : Act) → IsTrue (is_end act) → (x : ℕ) → (put_at act x ≡ None) × (is_copy act ≡ false) × (is_release act ≡ false)
 end_puts End is x = (refl, refl, refl)
 end_puts (Fetch addr value) is x = absurd (false≢true is)
@@ -129,6 +130,7 @@ end_puts (Copy block) is x = absurd (false≢true is)
 end_puts Tick is x = absurd (false≢true is)
 end_puts Release is x = absurd (false≢true is)
 
+-- a Release puts no byte
 pub release_puts : (act : Act) → IsTrue (is_release act) → (x : ℕ) → put_at act x ≡ None
 release_puts Release is x = refl
 release_puts (Fetch addr value) is x = absurd (false≢true is)
