@@ -1,5 +1,5 @@
--- What the laws say: memory that goes on from an earlier place, the first break of a rule, and a pass as the
--- measurer follows it.
+-- What the laws say: memory that goes on from an earlier place, the first break of a rule, and a pass as
+-- its measurer follows it.
 use Rattle.std.specs.Prelude.{◌≡◌, ℕ, ◌-◌, ◌≤◌, List, [], ◌∷◌, length, reverse, take, drop, slice_get, Some, unwrap_or}
 use Rattle.history.specs.declared.events.Entry.{Entry}
 use Rattle.history.specs.Layout.{Setting}
@@ -22,8 +22,8 @@ patched (entry ∷ later) m = patched later (stored entry m)
 abbrev pub between : List Entry → ℕ → ℕ → List Entry
 between history place later = drop place (take later history)
 
--- The history is legal before this place; the entry that it has there, the place-th, breaks this rule, and
--- no lesser one.
+-- The history is legal before this place, and the entry there, counted from 1, breaks this rule and no
+-- lesser one.
 pub record IsFirstBreak (w : Setting) (history : List Entry) (b : Break) : Type 0 where
   pub from : 1 ≤ b.place
   pub within : b.place ≤ length history

@@ -15,125 +15,146 @@ ghost use Rattle.history.specs.Instants.{EndsAt, ReleasesAt};
 ghost use Rattle.history.specs.Sliding.{LocksSlide, CopiedIsMemory};
 ghost use Rattle.chronicle.specs.Laws.{IsFirstBreak, KeepsPass, between, patched, stored};
 
-/// While a pass runs, a block that is still to be copied has the bytes of Start, where the discipline locks
-/// from Start on, and a copied block that is still locked has the bytes of its own Copy.
-///
-/// Every kind of entry keeps this: all but a store change no byte, and a store goes to a block that isn't
-/// locked.
-pub fn locks_slide()
-    ensures { LocksSlide }
-{}
-
-/// At each instant of a pass the attested memory is what the pass has copied, block by block, up to its End.
-///
-/// Where a discipline locks from Start on, each block had the bytes of Start at its own Copy and, until the
-/// lock is given up, has them still. Where it locks a block from its Copy on, each block has the bytes of
-/// its Copy at End, when all are copied, and keeps them while the lock is held. End and Release change no
-/// byte, so both still count.
-pub fn copied_is_memory()
-    ensures { CopiedIsMemory }
-{}
-
-/// The entries before a place, as the definitions look back over them: how many they are, the one that
-/// each place adds, and that later entries change none of them.
+/// The entries before a place, as the definitions look back over them: how many they are, the one
+/// that each place adds, and that later entries change none of them.
 pub fn places_of_a_history()
     ensures none { (history : List Entry) → back history 0 ≡ [] }
-    ensures count { (history : List Entry) (place : ℕ) → place ≤ length history → length (back history place) ≡ place }
-    ensures next { (history : List Entry) (place : ℕ) (entry : Entry) → slice_get history place ≡ Some entry
-        → back history (place + 1) ≡ entry ∷ back history place }
+    ensures count { (history : List Entry) (place : ℕ) → place ≤ length history
+        → length (back history place) ≡ place }
+    ensures next { (history : List Entry) (place : ℕ) (entry : Entry)
+        → slice_get history place ≡ Some entry → back history (place + 1) ≡ entry ∷ back history place }
     ensures all { (history : List Entry) → back history (length history) ≡ reverse history }
     ensures longer { (history more : List Entry) (place : ℕ) → place ≤ length history
         → back (history ++ more) place ≡ back history place }
 {}
 
-/// The first entries of a legal history, up to any place, are a legal history: each rule looks at the entry
-/// and at those before it alone.
+/// The first entries of a legal history, up to any place, are a legal history: each rule looks at the
+/// entry and at those before it alone.
 pub fn prefixes_are_legal()
-    ensures { (w : Setting) (history : List Entry) (place : ℕ) → IsLegal w history → IsLegal w (take place history) }
+    ensures { (w : Setting) (history : List Entry) (place : ℕ)
+        → IsLegal w history → IsLegal w (take place history) }
 {}
 
-/// A history with one entry more is legal where the history is and the entry may follow it, and nowhere
-/// else.
+/// A history with one entry more is legal where the history is and the entry may follow it, and
+/// nowhere else.
 pub fn one_entry_more()
-    ensures more { (w : Setting) (history : List Entry) (entry : Entry) → IsLegal w history
-        → MayFollow w (reverse history) entry → IsLegal w (history ++ entry ∷ []) }
-    ensures less { (w : Setting) (history : List Entry) (entry : Entry) → IsLegal w (history ++ entry ∷ [])
-        → IsLegal w history × MayFollow w (reverse history) entry }
+    ensures more { (w : Setting) (history : List Entry) (entry : Entry)
+        → IsLegal w history → MayFollow w (reverse history) entry → IsLegal w (history ++ entry ∷ []) }
+    ensures less { (w : Setting) (history : List Entry) (entry : Entry)
+        → IsLegal w (history ++ entry ∷ []) → IsLegal w history × MayFollow w (reverse history) entry }
 {}
 
-/// Memory is bytes, whatever the history: the first image is, and a store puts a remainder by 256. So the
-/// value that an access reads fits its width.
-pub fn memory_is_bytes()
-    ensures bytes { (w : Setting) → IsSetting w → (past : List Entry) (x : ℕ) → memory_after w past x < 256 }
-    ensures values { (m : Memory) → ((x : ℕ) → m x < 256) → (addr : ℕ) (width : Width)
-        → value_in m addr width < 256 ^ width_bytes width }
-{}
-
-/// The entries of some actors: they are a filter, so those of two lists in a row are those of the first and
-/// then those of the second, others have none, and a part of the actors has its own out of those of all.
+/// The entries of some actors: they are a filter, so those of two lists in a row are those of the
+/// first and then those of the second, others have none, and a part of the actors has its own out of
+/// those of all.
 pub fn own_entries()
-    ensures append { (a b : List Entry) (low high : ℕ) → own (a ++ b) low high ≡ own a low high ++ own b low high }
-    ensures none { (low high : ℕ) (others : List Entry) → All (λ entry. (entry.actor < low) ⊎ (high ≤ entry.actor)) others
-        → own others low high ≡ [] }
-    ensures all { (low high : ℕ) (mine : List Entry) → All (λ entry. (low ≤ entry.actor) × (entry.actor < high)) mine
-        → own mine low high ≡ mine }
+    ensures append { (a b : List Entry) (low high : ℕ)
+        → own (a ++ b) low high ≡ own a low high ++ own b low high }
+    ensures none { (low high : ℕ) (others : List Entry)
+        → All (λ entry. (entry.actor < low) ⊎ (high ≤ entry.actor)) others → own others low high ≡ [] }
+    ensures all { (low high : ℕ) (mine : List Entry)
+        → All (λ entry. (low ≤ entry.actor) × (entry.actor < high)) mine → own mine low high ≡ mine }
     ensures part { (history : List Entry) (low high from upto : ℕ) → low ≤ from → upto ≤ high
         → own (own history low high) from upto ≡ own history from upto }
 {}
 
-/// Memory at a later place is memory at an earlier one with the stores of the entries between applied in
-/// their order: the last store that covers a byte says what it is, and where none of these does, the
-/// earlier memory does.
+/// Memory is bytes, whatever the history: the first image is, and a store puts a remainder by 256. So
+/// the value that an access reads fits its width.
+pub fn memory_is_bytes()
+    ensures bytes { (w : Setting) → IsSetting w → (past : List Entry) (x : ℕ)
+        → memory_after w past x < 256 }
+    ensures values { (m : Memory) → ((x : ℕ) → m x < 256) → (addr : ℕ) (width : Width)
+        → value_in m addr width < 256 ^ width_bytes width }
+{}
+
+/// Memory at a later place is memory at an earlier one with the stores of the entries between applied
+/// in their order: the last store that covers a byte says what it is, and where none of these does,
+/// the earlier memory does.
 pub fn memory_later()
-    ensures next { (w : Setting) (history : List Entry) (place : ℕ) (entry : Entry) → slice_get history place ≡ Some entry
+    ensures next { (w : Setting) (history : List Entry) (place : ℕ) (entry : Entry)
+        → slice_get history place ≡ Some entry
         → (x : ℕ) → memory_at w history (place + 1) x ≡ stored entry (memory_at w history place) x }
-    ensures between { (w : Setting) (history : List Entry) (place later : ℕ) → place ≤ later
-        → (x : ℕ) → memory_at w history later x ≡ patched (between history place later) (memory_at w history place) x }
+    ensures between { (w : Setting) (history : List Entry) (place later : ℕ) → place ≤ later → (x : ℕ)
+        → memory_at w history later x
+        ≡ patched (between history place later) (memory_at w history place) x }
     ensures newer { (w : Setting) (later older : List Entry) (x : ℕ)
         → memory_after w (reverse later ++ older) x ≡ patched later (memory_after w older) x }
 {}
 
-/// The first break of a rule: there is none exactly where the history is legal, and else it is the place up
-/// to which the history is legal before, and the least rule that the entry there breaks. Each rule is a
-/// test that computes, and no test fails exactly where the entry may follow.
+/// The first break of a rule: there is none exactly where the history is legal, and else it is the
+/// place before which the history is legal, with the least rule that the entry there breaks. Each rule
+/// is a test that computes, and none fails exactly where the entry may follow.
 pub fn broken_is_exact()
-    ensures none { (w : Setting) (history : List Entry) → (broken w history ≡ None) ↔ IsLegal w history }
+    ensures none { (w : Setting) (history : List Entry)
+        → (broken w history ≡ None) ↔ IsLegal w history }
     ensures first { (w : Setting) (history : List Entry) (b : Break)
         → (broken w history ≡ Some b) ↔ IsFirstBreak w history b }
     ensures rules { (w : Setting) (past : List Entry) (entry : Entry)
         → (broken_rule w past entry ≡ None) ↔ MayFollow w past entry }
 {}
 
-/// What the measurer knows of its pass stays true while others make their entries: where no new entry is
-/// actor 0's, the pass is the same, with the same copies, and where there was none there is none. Others only
-/// fetch, load and store, by the rule on actors.
+/// The sliding-lock fact. While a pass runs, a block that is still to be copied has the bytes of
+/// Start, where the discipline locks from Start on, and a copied block that is still locked has the
+/// bytes of its own Copy.
+///
+/// Every kind of entry keeps this: all but a store change no byte, and a store goes to a block that
+/// isn't locked.
+pub fn locks_slide()
+    ensures { LocksSlide }
+{}
+
+/// At each instant of a pass the attested memory is what the pass has copied, block by block, up to
+/// its End.
+///
+/// Where a discipline locks from Start on, each block had the bytes of Start at its own Copy and,
+/// until the lock is given up, has them still. Where it locks a block from its Copy on, each block has
+/// the bytes of its Copy at End, when all are copied, and keeps them while the lock is held. End and
+/// Release change no byte, so their own places still count.
+pub fn copied_is_memory()
+    ensures { CopiedIsMemory }
+{}
+
+/// What the measurer knows of its pass stays true while others make their entries: where no new entry
+/// is actor 0's, the pass is the same, with the same copies, and where there was none there is none.
+/// Others only fetch, load and store, by the rule on actors.
 pub fn others_keep_the_pass()
-    ensures pass { (w : Setting) (history others : List Entry) → IsLegal w (history ++ others) → own others 0 1 ≡ []
-        → (pass : Pass) → pass_after (reverse history) ≡ Some pass → KeepsPass w history (history ++ others) pass }
-    ensures none { (w : Setting) (history others : List Entry) → IsLegal w (history ++ others) → own others 0 1 ≡ []
+    ensures pass { (w : Setting) (history others : List Entry)
+        → IsLegal w (history ++ others) → own others 0 1 ≡ []
+        → (pass : Pass) → pass_after (reverse history) ≡ Some pass
+        → KeepsPass w history (history ++ others) pass }
+    ensures none { (w : Setting) (history others : List Entry)
+        → IsLegal w (history ++ others) → own others 0 1 ≡ []
         → pass_after (reverse history) ≡ None → pass_after (reverse (history ++ others)) ≡ None }
 {}
 
-/// What shows the instants of a pass to one who has followed it: how an entry of one's own changes the pass
-/// and its bytes, where the pass's End and Release stand, however the history goes on, and that a pass that
-/// has ended copied every attested block after its Start.
+/// What shows the instants of a pass to one who has followed it: how one entry more changes the pass
+/// and the bytes that it has copied, where the pass's End and Release stand, however the history goes
+/// on, and that a pass that has ended copied every attested block after its Start.
 pub fn places_of_a_pass()
-    ensures step { (history : List Entry) (entry : Entry) → pass_after (reverse (history ++ entry ∷ []))
+    ensures step { (history : List Entry) (entry : Entry)
+        → pass_after (reverse (history ++ entry ∷ []))
         ≡ pass_step entry.act entry (reverse history) (pass_after (reverse history)) }
-    ensures bytes { (w : Setting) (history : List Entry) (entry : Entry) → copied_bytes w (reverse (history ++ entry ∷ []))
+    ensures bytes { (w : Setting) (history : List Entry) (entry : Entry)
+        → copied_bytes w (reverse (history ++ entry ∷ []))
         ≡ copied_step w entry.act (reverse history) (copied_bytes w (reverse history)) }
 
     ensures ends { (history : List Entry) (entry : Entry) (more : List Entry) (pass : Pass)
         → pass_after (reverse history) ≡ Some pass → entry.act ≡ End
-        → EndsAt (history ++ entry ∷ more) pass.discipline pass.counter (start_of pass) (length history + 1) }
-    ensures end_bytes { (w : Setting) (history : List Entry) (entry : Entry) (more : List Entry) → entry.act ≡ End
-        → copied_bytes w (back (history ++ entry ∷ more) (length history + 1)) ≡ copied_bytes w (reverse history) }
+        → EndsAt (history ++ entry ∷ more)
+        pass.discipline pass.counter (start_of pass) (length history + 1) }
+    ensures end_bytes { (w : Setting) (history : List Entry) (entry : Entry) (more : List Entry)
+        → entry.act ≡ End
+        → copied_bytes w (back (history ++ entry ∷ more) (length history + 1))
+        ≡ copied_bytes w (reverse history) }
     ensures releases { (history : List Entry) (entry : Entry) (more : List Entry) (pass : Pass)
         → pass_after (reverse history) ≡ Some pass → entry.act ≡ Release
-        → ReleasesAt (history ++ entry ∷ more) pass.discipline pass.counter (start_of pass) (length history + 1) }
-    ensures unreleased { (history : List Entry) (pass : Pass) → pass_after (reverse history) ≡ Some pass
-        → is_released pass ≡ false → ReleasesAt history pass.discipline pass.counter (start_of pass) (length history) }
+        → ReleasesAt (history ++ entry ∷ more)
+        pass.discipline pass.counter (start_of pass) (length history + 1) }
+    ensures unreleased { (history : List Entry) (pass : Pass)
+        → pass_after (reverse history) ≡ Some pass → is_released pass ≡ false
+        → ReleasesAt history pass.discipline pass.counter (start_of pass) (length history) }
 
-    ensures whole { (w : Setting) (history : List Entry) → IsLegal w history → (form : Discipline) (number start end : ℕ)
-        → (e : EndsAt history form number start end) → (copied_of e.pass ≡ w.attested) × (start < end) }
+    ensures whole { (w : Setting) (history : List Entry) → IsLegal w history
+        → (form : Discipline) (number start end : ℕ) → (e : EndsAt history form number start end)
+        → (copied_of e.pass ≡ w.attested) × (start < end) }
 {}
