@@ -1,0 +1,37 @@
+-- What a stream tells of its content, and what a call does to it.
+-- A stream that doesn't tell has `None`. A clause equates the old and the new content, so it holds there too.
+use Rattle.std.specs.Prelude.{◌≡◌, ℕ, ◌+◌, ◌<◌, ◌≤◌, List, [], ◌++◌, length, take, drop, Option, None, Some}
+
+-- a piece, and then what is left
+abbrev pub put_before : List ℕ → Option (List ℕ) → Option (List ℕ)
+put_before piece None = None
+put_before piece (Some rest) = Some (piece ++ rest)
+
+-- what is held, and then a piece
+abbrev pub put_after : Option (List ℕ) → List ℕ → Option (List ℕ)
+put_after None piece = None
+put_after (Some held) piece = Some (held ++ piece)
+
+-- nothing is left, where that is told
+abbrev pub IsDrained : Option (List ℕ) → Type 0
+IsDrained None = Unit {0}
+IsDrained (Some rest) = rest ≡ []
+
+-- a front of what was left has been taken
+pub record TakesFront (old new : Option (List ℕ)) : Type 0 where
+  pub taken : List ℕ
+  pub was : old ≡ put_before taken new
+
+-- a front of the piece has been appended
+pub record AppendsFront (old new : Option (List ℕ)) (piece : List ℕ) : Type 0 where
+  pub count : ℕ
+  pub within : count ≤ length piece
+  pub grown : new ≡ put_after old (take count piece)
+
+-- all that was left has been taken, where that is told
+abbrev pub TakesAll : Option (List ℕ) → Option (List ℕ) → List ℕ → Type 0
+TakesAll old new taken = (bytes : List ℕ) → old ≡ Some bytes → (taken ≡ bytes) × (new ≡ Some [])
+
+-- more than the limit was left, and one byte more than the limit has been taken, where that is told
+abbrev pub TakesTooMany : ℕ → Option (List ℕ) → Option (List ℕ) → Type 0
+TakesTooMany limit old new = (bytes : List ℕ) → old ≡ Some bytes → (limit < length bytes) × (new ≡ Some (drop (limit + 1) bytes))

@@ -1,0 +1,98 @@
+// What is read and written piece by piece.
+ghost use Rattle.std.specs.Prelude.{◌≡◌, ℕ, ◌+◌, ◌^◌, ◌<◌, ◌≤◌, List, ◌++◌, length, take, Option, None, IfOk, OnOk, OnErr, IsErrOf};
+ghost use Rattle.att_base.specs.Faults.{Rose};
+ghost use Rattle.att_base.specs.Streams.{put_before, put_after, IsDrained, TakesAll, TakesTooMany, TakesFront, AppendsFront};
+
+use crate::faults::{Failed, ReadFault};
+use std::alloc::Global;
+
+/// Something that bytes are read from, as standard input.
+pub trait Source {
+    /// What is left to read, or `None` where that isn't told.
+    ghost left: { Self → Option (List ℕ) };
+
+    /// How often a call has failed, up to `2^64 - 1`.
+    ghost faults: { Self → ℕ };
+
+    /// Moves the first bytes of what is left into the front of `into`, and gives their number: 0 only where `into`
+    /// is empty or nothing is left. After `Failed` nothing was taken, and `into` has any bytes.
+    fn read(&mut self, into: &mut [u8]) -> Result<usize, Failed>
+        ensures bound { IfOk result (λ n. n ≤ length into.new) }
+        ensures bytes { IfOk result (λ n. left self.old ≡ put_before (take n into.new) (left self.new)) }
+        ensures end { IfOk result (λ n. n ≡ 0 → 0 < length into.new → IsDrained (left self.old)) }
+        ensures err { OnErr result (left self.new ≡ left self.old) }
+        ensures later { faults self.old ≤ faults self.new }
+        ensures cause { OnErr result (Rose (faults self.old) (faults self.new)) };
+}
+
+/// Something that bytes are written to, as standard output.
+pub trait Sink {
+    /// What is held, or `None` where that isn't told.
+    ghost held: { Self → Option (List ℕ) };
+
+    /// How often a call has failed, up to `2^64 - 1`.
+    ghost faults: { Self → ℕ };
+
+    /// Appends the first bytes of the piece to what is held, and gives their number: at least 1 where the piece
+    /// isn't empty. After `Failed` nothing was appended.
+    fn write(&mut self, piece: &[u8]) -> Result<usize, Failed>
+        ensures bound { IfOk result (λ n. n ≤ length piece.now) }
+        ensures bytes { IfOk result (λ n. held self.new ≡ put_after (held self.old) (take n piece.now)) }
+        ensures progress { IfOk result (λ n. 0 < length piece.now → 0 < n) }
+        ensures err { OnErr result (held self.new ≡ held self.old) }
+        ensures later { faults self.old ≤ faults self.new }
+        ensures cause { OnErr result (Rose (faults self.old) (faults self.new)) };
+}
+
+/// Appends the whole piece. After `Failed` a front of it was appended.
+pub fn put_all<K: Sink>(sink: &mut K, piece: &[u8]) -> Result<(), Failed>
+    ensures ok { OnOk result (K.held sink.new ≡ put_after (K.held sink.old) piece.now) }
+    ensures err { OnErr result (AppendsFront (K.held sink.old) (K.held sink.new) piece.now) }
+    ensures later { K.faults sink.old ≤ K.faults sink.new }
+    ensures cause { OnErr result (Rose (K.faults sink.old) (K.faults sink.new)) }
+{
+    let mut at = 0;
+    'writing: while at < piece.len() {
+        at += sink.write(&piece[at..])?;
+    }
+    Ok(())
+}
+
+/// The most bytes that `take_all` asks for in one call.
+const PIECE_LEN: usize = 4096;
+
+/// Takes all that is left, if that is at most `limit` bytes.
+///
+/// `TooLong` comes after `limit + 1` bytes were taken. After `Failed` and `Memory` a front of what was left was
+/// taken. No more than `limit + 1` bytes are asked for in all.
+pub fn take_all<S: Source>(alloc: Global, source: &mut S, limit: u64) -> Result<Vec<u8>, ReadFault>
+    requires { limit + 1 < 2 ^ 64 }
+    ensures ok { IfOk result (λ v. TakesAll (S.left source.old) (S.left source.new) v.items) }
+    ensures within { IfOk result (λ v. length v.items ≤ limit) }
+    ensures too_long { IsErrOf result ReadFault.TooLong → TakesTooMany limit (S.left source.old) (S.left source.new) }
+    ensures failed { IsErrOf result ReadFault.Failed → Rose (S.faults source.old) (S.faults source.new) }
+    ensures missing { IsErrOf result ReadFault.Missing → ⊥ }
+    ensures front { TakesFront (S.left source.old) (S.left source.new) }
+    ensures untold { S.left source.old ≡ None → S.left source.new ≡ None }
+    ensures later { S.faults source.old ≤ S.faults source.new }
+{
+    let mut bytes = Vec::new(alloc);
+    let mut piece = [0; PIECE_LEN];
+    'reading: loop {
+        // One byte past the limit shows that there is too much.
+        let room = limit as usize - bytes.len();
+        let asked = PIECE_LEN.min(room + 1);
+        let Ok(count) = source.read(&mut piece[..asked]) else {
+            return Err(ReadFault::Failed);
+        };
+        if count == 0 {
+            return Ok(bytes);
+        }
+        if count > room {
+            return Err(ReadFault::TooLong);
+        }
+        let Ok(()) = bytes.extend_from_slice(&piece[..count]) else {
+            return Err(ReadFault::Memory);
+        };
+    }
+}
