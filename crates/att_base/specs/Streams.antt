@@ -35,3 +35,7 @@ TakesAll old new taken = (bytes : List ℕ) → old ≡ Some bytes → (taken �
 -- more than the limit was left, and one byte more than the limit has been taken, where that is told
 abbrev pub TakesTooMany : ℕ → Option (List ℕ) → Option (List ℕ) → Type 0
 TakesTooMany limit old new = (bytes : List ℕ) → old ≡ Some bytes → (limit < length bytes) × (new ≡ Some (drop (limit + 1) bytes))
+
+-- either each value of the type tells, or none does
+abbrev pub TellsAlike : {X : Type 0} → (X → Option (List ℕ)) → Type 0
+TellsAlike {X} told = (one other : X) → told one ≡ None → told other ≡ None

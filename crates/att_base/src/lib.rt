@@ -7,10 +7,15 @@
 
 mod faults;
 mod memory;
+mod standard;
 mod streams;
 mod words;
 
 pub use faults::{Failed, ReadFault};
 pub use memory::{MemSink, MemSource};
+pub use standard::{StdErr, StdSink, StdSource};
 pub use streams::{Sink, Source, put_all, take_all};
 pub use words::Words;
+
+#[cfg(test)]
+mod tests;
