@@ -122,3 +122,11 @@ fn streams_of_std_are_streams(rt: HostRuntime) -> Result<(), Fail> {
     assert_eq!(rt; sink.write(b""), Ok(0));
     Ok(())
 }
+
+#[test]
+fn main_can_pass_its_streams(rt: HostRuntime) -> Result<(), Fail> {
+    let _input = StdSource::new(rt.stdin());
+    put_all(&mut StdSink::new(rt.stdout()), b"")?;
+    put_all(&mut StdErr::new(rt.stderr()), b"")?;
+    Ok(())
+}
