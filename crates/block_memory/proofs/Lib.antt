@@ -1,0 +1,3 @@
+pub mod BytesFrom
+pub mod LowBytes
+pub mod OneBlock

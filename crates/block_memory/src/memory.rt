@@ -1,0 +1,123 @@
+//! The bytes of memory.
+
+ghost use Rattle.std.specs.Prelude.{◌≡◌, ℕ, ◌+◌, ◌-◌, ◌≤◌, ◌&&◌, nat_le, nat_lt, if◌then◌else◌, length, slice_index};
+
+use crate::geometry::Geometry;
+use history::Width;
+use std::alloc::{AllocError, Global};
+use std::marker::Model;
+
+/// Puts `put` into `bytes` from the index `at` on.
+fn write_at(bytes: &mut [u8], at: usize, put: &[u8])
+    requires { at + length put.now ≤ length bytes.old }
+    ensures count { length bytes.new ≡ length bytes.old }
+    ensures each { (k : ℕ) → slice_index bytes.new k
+        ≡ (if nat_le at k && nat_lt k (at + length put.now) then slice_index put.now (k - at)
+        else slice_index bytes.old k) }
+{
+    bytes[at..at + put.len()].copy_from_slice(put);
+}
+
+/// A device's memory: its geometry, and each of its bytes.
+#[derive(Drop)]
+pub struct BlockMemory {
+    geometry: Geometry,
+    bytes: Vec<u8>,
+}
+
+impl Model for BlockMemory {
+    ghost use Rattle.std.specs.Prelude.{◌≡◌, length};
+    ghost use Rattle.history.specs.Layout.{IsLayout, byte_count};
+    ghost use Rattle.block_memory.specs.Bytes.{Held};
+
+    ghost Value = { Held };
+
+    ghost view = { λ m. record { layout = m.geometry; bytes = m.bytes.items } };
+
+    ghost invariant = { λ m. IsLayout m.geometry × (length m.bytes.items ≡ byte_count m.geometry) };
+}
+
+impl BlockMemory {
+    ghost use Rattle.std.specs.Prelude.{◌≡◌, ℕ, ◌+◌, ◌*◌, ◌^◌, ◌<◌, ◌≤◌, List, [], ◌∷◌, length, IfOk, IsTrue, unwrap_or};
+    ghost use Rattle.history.specs.declared.events.Act.TheVariants.{Store};
+    ghost use Rattle.history.specs.declared.events.Entry.{Entry};
+    ghost use Rattle.history.specs.Layout.{Setting, IsLayout, byte_count, past_end, fits, is_aligned, block_start, width_bytes};
+    ghost use Rattle.history.specs.Memory.{memory_after, value_in, put_at, bytes_from, block_bytes};
+    ghost use Rattle.block_memory.specs.Bytes.{memory_of, IsMemoryOf};
+
+    /// The memory with this geometry and these bytes, by rising address.
+    pub fn new(alloc: Global, geometry: Geometry, image: &[u8]) -> Result<BlockMemory, AllocError>
+        requires { length image.now ≡ byte_count geometry }
+        ensures held { IfOk result (λ m. (m.layout ≡ geometry) × (m.bytes ≡ image.now)) }
+        ensures history { IfOk result (λ m. (w : Setting) → w.layout ≡ geometry → w.image ≡ image.now
+            → IsMemoryOf w [] m) }
+    {
+        let _base = geometry.base();
+        let bytes = Vec::from_slice(alloc, image)?;
+        Ok(BlockMemory { geometry, bytes })
+    }
+
+    /// Where this memory lies.
+    pub fn geometry(&self) -> Geometry
+        ensures value { result ≡ self.now.layout }
+        ensures layout { IsLayout self.now.layout }
+        ensures whole { length self.now.bytes ≡ byte_count self.now.layout }
+    {
+        self.geometry
+    }
+
+    /// The value of `width` bytes at this address, the lowest byte first, filled with zeros.
+    pub fn load(&self, addr: u32, width: Width) -> u32
+        requires fits { IsTrue (fits self.now.layout addr width) }
+        requires aligned { IsTrue (is_aligned addr width) }
+        ensures value { result ≡ value_in (memory_of self.now) addr width }
+        ensures small { result < 256 ^ width_bytes width }
+        ensures history { (w : Setting) (past : List Entry) → IsMemoryOf w past self.now
+            → result ≡ value_in (memory_after w past) addr width }
+    {
+        let at = (addr - self.geometry.base()) as usize;
+        match width {
+            Width::Byte => u32::from(self.bytes[at]),
+            Width::Half => u32::from(u16::from_le_bytes([self.bytes[at], self.bytes[at + 1]])),
+            Width::Word => u32::from_le_bytes([
+                self.bytes[at],
+                self.bytes[at + 1],
+                self.bytes[at + 2],
+                self.bytes[at + 3],
+            ]),
+        }
+    }
+
+    /// Puts the lowest `width` bytes of the value at this address, the lowest byte first, and changes
+    /// no other byte.
+    pub fn store(&mut self, addr: u32, width: Width, value: u32)
+        requires fits { IsTrue (fits self.old.layout addr width) }
+        requires aligned { IsTrue (is_aligned addr width) }
+        requires small { value < 256 ^ width_bytes width }
+        ensures layout { self.new.layout ≡ self.old.layout }
+        ensures count { length self.new.bytes ≡ length self.old.bytes }
+        ensures bytes { (x : ℕ) → self.old.layout.base ≤ x → x < past_end self.old.layout
+            → memory_of self.new x
+            ≡ unwrap_or (put_at (Store addr width value) x) (memory_of self.old x) }
+        ensures history { (w : Setting) (past : List Entry) (actor : ℕ) → IsMemoryOf w past self.old
+            → IsMemoryOf w (record { actor = actor; act = Store addr width value } ∷ past) self.new }
+    {
+        let at = (addr - self.geometry.base()) as usize;
+        let count = width.bytes() as usize;
+        write_at(&mut self.bytes, at, &value.to_le_bytes()[..count]);
+    }
+
+    /// Copies the block's bytes, by rising address. Blocks are numbered from 0.
+    pub fn copy_block(&self, block: u32, into: &mut [u8])
+        requires block { block < self.now.layout.blocks }
+        requires room { length into.old ≡ self.now.layout.size }
+        ensures bytes { into.new ≡ bytes_from (memory_of self.now)
+            (block_start self.now.layout block) self.now.layout.size }
+        ensures history { (w : Setting) (past : List Entry) → IsMemoryOf w past self.now
+            → into.new ≡ block_bytes w (memory_after w past) block }
+    {
+        let size = self.geometry.size() as usize;
+        let start = size * block as usize;
+        into.copy_from_slice(&self.bytes[start..start + size]);
+    }
+}
