@@ -52,7 +52,7 @@ impl Model for Geometry {
 }
 
 impl Geometry {
-    ghost use Rattle.std.specs.Prelude.{◌≡◌, ◌↔◌, IsTrue};
+    ghost use Rattle.std.specs.Prelude.{◌≡◌, ◌<◌, ◌≤◌, ◌↔◌, IsTrue, IfSome};
     ghost use Rattle.std.specs.Option.{SomeIff};
     ghost use Rattle.history.specs.Layout.{Layout, IsLayout, byte_count, has_byte, block_of, fits};
 
@@ -85,6 +85,8 @@ impl Geometry {
     pub fn size(&self) -> u32
         ensures value { result ≡ self.now.size }
         ensures layout { IsLayout self.now }
+        ensures least { 16 ≤ result }
+        ensures most { result ≤ 65536 }
     {
         self.size
     }
@@ -108,7 +110,8 @@ impl Geometry {
     /// The number of the block that has the byte at this address, from 0; None exactly where the byte
     /// lies outside memory.
     pub fn block_of(&self, addr: u32) -> Option<u32>
-        ensures { SomeIff result (IsTrue (has_byte self.now addr)) (block_of self.now addr) }
+        ensures value { SomeIff result (IsTrue (has_byte self.now addr)) (block_of self.now addr) }
+        ensures below { IfSome result (λ block. block < self.now.blocks) }
     {
         if addr < self.base || addr - self.base >= self.byte_count() {
             return None;

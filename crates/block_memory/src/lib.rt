@@ -17,5 +17,8 @@ mod memory;
 
 pub use geometry::{Geometry, aligned};
 pub use history::Width;
-pub use laws::{access_in_one_block, reads_keep_memory};
+pub use laws::{access_in_one_block, block_in_memory, reads_keep_memory};
 pub use memory::BlockMemory;
+
+#[cfg(test)]
+mod tests;

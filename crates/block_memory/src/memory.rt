@@ -27,21 +27,21 @@ pub struct BlockMemory {
 
 impl Model for BlockMemory {
     ghost use Rattle.std.specs.Prelude.{◌≡◌, length};
-    ghost use Rattle.history.specs.Layout.{IsLayout, byte_count};
+    ghost use Rattle.history.specs.Layout.{byte_count};
     ghost use Rattle.block_memory.specs.Bytes.{Held};
 
     ghost Value = { Held };
 
     ghost view = { λ m. record { layout = m.geometry; bytes = m.bytes.items } };
 
-    ghost invariant = { λ m. IsLayout m.geometry × (length m.bytes.items ≡ byte_count m.geometry) };
+    ghost invariant = { λ m. length m.bytes.items ≡ byte_count m.geometry };
 }
 
 impl BlockMemory {
     ghost use Rattle.std.specs.Prelude.{◌≡◌, ℕ, ◌+◌, ◌*◌, ◌^◌, ◌<◌, ◌≤◌, List, [], ◌∷◌, length, IfOk, IsTrue, unwrap_or};
     ghost use Rattle.history.specs.declared.events.Act.TheVariants.{Store};
     ghost use Rattle.history.specs.declared.events.Entry.{Entry};
-    ghost use Rattle.history.specs.Layout.{Setting, IsLayout, byte_count, past_end, fits, is_aligned, block_start, width_bytes};
+    ghost use Rattle.history.specs.Layout.{Setting, byte_count, past_end, fits, is_aligned, block_start, width_bytes};
     ghost use Rattle.history.specs.Memory.{memory_after, value_in, put_at, bytes_from, block_bytes};
     ghost use Rattle.block_memory.specs.Bytes.{memory_of, IsMemoryOf};
 
@@ -52,7 +52,6 @@ impl BlockMemory {
         ensures history { IfOk result (λ m. (w : Setting) → w.layout ≡ geometry → w.image ≡ image.now
             → IsMemoryOf w [] m) }
     {
-        let _base = geometry.base();
         let bytes = Vec::from_slice(alloc, image)?;
         Ok(BlockMemory { geometry, bytes })
     }
@@ -60,7 +59,6 @@ impl BlockMemory {
     /// Where this memory lies.
     pub fn geometry(&self) -> Geometry
         ensures value { result ≡ self.now.layout }
-        ensures layout { IsLayout self.now.layout }
         ensures whole { length self.now.bytes ≡ byte_count self.now.layout }
     {
         self.geometry
@@ -120,4 +118,11 @@ impl BlockMemory {
         let start = size * block as usize;
         into.copy_from_slice(&self.bytes[start..start + size]);
     }
+}
+
+/// Threads may share memory.
+fn crosses<X: Send + Sync>(_value: &X) {}
+
+fn memory_crosses(memory: &BlockMemory) {
+    crosses(memory);
 }

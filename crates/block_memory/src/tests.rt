@@ -1,9 +1,6 @@
 //! What no clause says: that each call succeeds, and values worked out by hand.
 
-use crate::geometry::{Geometry, aligned};
-use crate::laws::{access_in_one_block, reads_keep_memory};
-use crate::memory::BlockMemory;
-use history::Width;
+use super::*;
 use std::test::Fail;
 
 #[test]
@@ -21,7 +18,6 @@ fn geometry_at_its_limits(rt: HostRuntime) {
         (0x8000_0010, 16, 1, true),
         (0x8000_0008, 16, 1, false),
         (0xfff0_0000, 65_536, 16, true),
-        (0xfff0_0000, 32_768, 32, true),
         (0xffff_fff0, 16, 1, true),
         (0xffff_fff0, 16, 2, false),
     ] {
@@ -31,7 +27,71 @@ fn geometry_at_its_limits(rt: HostRuntime) {
             assert_eq!(rt; geometry.base(), base);
             assert_eq!(rt; geometry.size(), size);
             assert_eq!(rt; geometry.blocks(), blocks);
-            assert_eq!(rt; geometry.byte_count(), size * blocks);
         }
     }
+}
+
+#[test]
+fn accesses_at_the_ends(rt: HostRuntime) -> Result<(), Fail> {
+    let geometry = Geometry::new(0xffff_ffe0, 16, 2).ok_or("no geometry")?;
+    assert_eq!(rt; geometry.byte_count(), 32);
+    for (addr, block) in [
+        (0, None),
+        (0xffff_ffdf, None),
+        (0xffff_ffe0, Some(0)),
+        (0xffff_ffef, Some(0)),
+        (0xffff_fff0, Some(1)),
+        (0xffff_ffff, Some(1)),
+    ] {
+        assert_eq!(rt; geometry.block_of(addr), block, "at {addr}");
+    }
+    for (addr, width, fits, divisible) in [
+        (0xffff_ffdc, Width::Word, false, true),
+        (0xffff_ffde, Width::Word, false, false),
+        (0xffff_ffe0, Width::Word, true, true),
+        (0xffff_fffc, Width::Word, true, true),
+        (0xffff_fffd, Width::Word, false, false),
+        (0xffff_fffd, Width::Half, true, false),
+        (0xffff_fffe, Width::Half, true, true),
+        (0xffff_ffff, Width::Half, false, false),
+        (0xffff_ffff, Width::Byte, true, true),
+        (0, Width::Byte, false, true),
+    ] {
+        assert_eq!(rt; geometry.fits(addr, width), fits, "at {addr}");
+        assert_eq!(rt; aligned(addr, width), divisible, "at {addr}");
+    }
+    Ok(())
+}
+
+#[test]
+fn bytes_are_little_endian(rt: HostRuntime) -> Result<(), Fail> {
+    let Some(geometry) = Geometry::new(0x1000, 16, 2) else {
+        return Err("no geometry".into());
+    };
+    let image = *b"ABCDEFGHIJKLMNOPQRSTUVWXYZ012345";
+    let mut memory = BlockMemory::new(rt.alloc(), geometry, &image)?;
+    assert_eq!(rt; memory.geometry(), geometry);
+    assert_eq!(rt; memory.load(0x1000, Width::Word), 0x4443_4241);
+    assert_eq!(rt; memory.load(0x1002, Width::Half), 0x4443);
+    assert_eq!(rt; memory.load(0x101f, Width::Byte), 0x35);
+
+    memory.store(0x1004, Width::Word, 0x8765_4321);
+    memory.store(0x1010, Width::Half, 0xbeef);
+    memory.store(0x1013, Width::Byte, 0xff);
+    assert_eq!(rt; memory.load(0x1006, Width::Half), 0x8765);
+    assert_eq!(rt; memory.load(0x1010, Width::Word), 0xff53_beef);
+
+    let mut block = [0; 16];
+    memory.copy_block(0, &mut block);
+    assert_eq!(rt; &block, b"ABCD\x21\x43\x65\x87IJKLMNOP");
+    memory.copy_block(1, &mut block);
+    assert_eq!(rt; &block, b"\xef\xbeS\xffUVWXYZ012345");
+    Ok(())
+}
+
+#[test]
+fn laws_are_called() {
+    access_in_one_block();
+    block_in_memory();
+    reads_keep_memory();
 }
