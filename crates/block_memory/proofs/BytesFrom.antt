@@ -41,9 +41,3 @@ block_is_block w past held is_memory block below =
     let base : w.layout.base ≡ held.layout.base = ap (λ (l : Layout). l.base) (sym is_memory.layout) in
     let same = bytes_from_same (memory_of held) (memory_after w past) (block_start held.layout block) held.layout.size (λ y low high. is_memory.each y (omega arith) (omega arith)) in
     same ∙ ap (λ (l : Layout). bytes_from (memory_after w past) (block_start l block) l.size) is_memory.layout
-
--- what a copy of a range of the list gives, at the block's numbers
-pub piece_by_range : (into read bytes : List ℕ) (count size block : ℕ) → into ≡ take (count * block + count - count * block) (drop (count * block) read) → count ≡ size → read ≡ bytes → into ≡ take size (drop (size * block) bytes)
-piece_by_range into read bytes count size block copied same_size same_bytes =
-    let range : count * block + count - count * block ≡ count = omega arith in
-    cc

@@ -100,12 +100,13 @@ impl BlockMemory {
         ensures history { (w : Setting) (past : List Entry) (actor : ℕ) → IsMemoryOf w past self.old
             → IsMemoryOf w (record { actor = actor; act = Store addr width value } ∷ past) self.new }
     {
-        let at = (addr - self.geometry.base()) as usize;
+        let start = (addr - self.geometry.base()) as usize;
         let count = width.bytes() as usize;
-        write_at(&mut self.bytes, at, &value.to_le_bytes()[..count]);
+        write_at(&mut self.bytes, start, &value.to_le_bytes()[..count]);
     }
 
     /// Copies the block's bytes, by rising address. Blocks are numbered from 0.
+    #[tactic(auto, using(crate::proofs::BytesFrom::block_is_piece))]
     pub fn copy_block(&self, block: u32, into: &mut [u8])
         requires block { block < self.now.layout.blocks }
         requires room { length into.old ≡ self.now.layout.size }
