@@ -1,0 +1,5 @@
+pub mod Rows
+pub mod Sums
+pub mod Immediates
+pub mod Listing
+pub mod WordLaws
