@@ -1,8 +1,8 @@
 -- The row of a word whose opcode is known, and the row of each operation.
-use Rattle.std.proofs.Common.{◌≡◌, ◌≢◌, ℕ, ◌<◌, ◌%◌, Option, Some, None, eqb, true, false, refl, sym, ap, ◌∙◌, arith}
+use Rattle.std.proofs.Common.{◌≡◌, ◌≢◌, ℕ, Some, None, eqb, false, refl, ap, ◌∙◌, arith}
 use Rattle.std.proofs.lemmas.Bool.Decides.{nat_tests}
 use Rattle.rv_decode.specs.Fields.{opcode, funct3, funct7, rest}
-use Rattle.rv_decode.specs.Table.{Row, LUI, AUIPC, JAL, JALR, FENCE, ECALL, EBREAK, listed, row_of}
+use Rattle.rv_decode.specs.Table.{LUI, AUIPC, JAL, JALR, FENCE, ECALL, EBREAK, listed, row_of}
 
 pub of_jalr : (word : ℕ) → opcode word ≡ 0b1100111 → row_of word ≡ listed 0b1100111 (funct3 word) 0 0
 unfolding listed

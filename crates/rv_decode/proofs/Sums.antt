@@ -1,5 +1,5 @@
 -- A word is the sum of its fields, each at its place.
-use Rattle.std.proofs.Common.{◌≡◌, ℕ, ◌<◌, ◌+◌, ◌*◌, ◌%◌, ◌/◌, ◌^◌, refl, sym, ap, ◌∙◌, subst, arith}
+use Rattle.std.proofs.Common.{◌≡◌, ℕ, ◌<◌, ◌+◌, ◌*◌, ◌^◌, subst, arith}
 use Rattle.rv_decode.specs.Fields.{field, opcode, rd, funct3, rs1, rs2, funct7}
 
 -- the six fields of the formats, from bit 0 on, side by side
@@ -27,9 +27,6 @@ rs2-joined o d f a b g po pd pf pa pb = omega arith
 pub funct7-joined : (o d f a b g : ℕ) → o < 2 ^ 7 → d < 2 ^ 5 → f < 2 ^ 3 → a < 2 ^ 5 → b < 2 ^ 5 → g < 2 ^ 7 → funct7 (joined o d f a b g) ≡ g
 funct7-joined o d f a b g po pd pf pa pb pg = omega arith
 
-pub joined_back : (w : ℕ) → w < 2 ^ 32 → joined (opcode w) (rd w) (funct3 w) (rs1 w) (rs2 w) (funct7 w) ≡ w
-joined_back w h = omega arith
-
 -- the other fields, by these
 
 pub upper12-split : (w : ℕ) → field 20 12 w ≡ rs2 w + funct7 w * 2 ^ 5
@@ -38,20 +35,8 @@ upper12-split w = omega arith
 pub upper20-split : (w : ℕ) → field 12 20 w ≡ funct3 w + rs1 w * 2 ^ 3 + rs2 w * 2 ^ 8 + funct7 w * 2 ^ 13
 upper20-split w = omega arith
 
-pub bit7-split : (w : ℕ) → field 7 1 w ≡ field 0 1 (rd w)
-bit7-split w = omega arith
-
-pub bits8-split : (w : ℕ) → field 8 4 w ≡ field 1 4 (rd w)
-bits8-split w = omega arith
-
-pub bits25-split : (w : ℕ) → field 25 6 w ≡ field 0 6 (funct7 w)
-bits25-split w = omega arith
-
 pub bit31-split : (w : ℕ) → field 31 1 w ≡ field 6 1 (funct7 w)
 bit31-split w = omega arith
-
-pub rest-split : (w : ℕ) → field 7 25 w ≡ rd w + funct3 w * 2 ^ 5 + rs1 w * 2 ^ 8 + rs2 w * 2 ^ 13 + funct7 w * 2 ^ 18
-rest-split w = omega arith
 
 pub bits21-split : (w : ℕ) → field 21 10 w ≡ field 1 4 (rs2 w) + field 0 6 (funct7 w) * 2 ^ 4
 bits21-split w = omega arith

@@ -1,6 +1,6 @@
 -- The word of an instruction has its row and its fields, and an instruction with a word's row and fields has the
 -- word. One lemma for each format and direction, over the numbers alone.
-use Rattle.std.proofs.Common.{◌≡◌, ℕ, ◌<◌, ◌+◌, ◌*◌, ◌%◌, ◌/◌, ◌^◌, ◌&&◌, ℤ, Bool, true, cond, eqb, ltb, IsTrue, ◌↔◌, Option, Some, None, IfSome, lit<, refl, sym, ap, ◌∙◌, subst, arith}
+use Rattle.std.proofs.Common.{◌≡◌, ℕ, ◌<◌, ◌+◌, ◌*◌, ◌%◌, ◌^◌, ◌&&◌, ℤ, Bool, true, cond, eqb, ltb, IsTrue, ◌↔◌, Option, Some, None, IfSome, lit<, refl, sym, ap, ◌∙◌, subst, arith}
 use Rattle.std.proofs.lemmas.Bool.{and_parts, and_from, ltb-true, lt-ltb, eqb-true, eq-eqb}
 use Rattle.std.proofs.lemmas.Option.{cond_some, same_Some, none-some}
 use Rattle.rv_decode.specs.declared.instruction.Instr.{Instr}
@@ -13,8 +13,8 @@ use Rattle.rv_decode.specs.declared.instruction.ShiftOp.TheVariants.{Slli, Srli,
 use Rattle.rv_decode.specs.declared.instruction.RegOp.TheVariants.{Add, Sub, Sll, Slt, Sltu, Xor, Srl, Sra, Or, And}
 use Rattle.rv_decode.specs.Fields.{field, opcode, rd, funct3, rs1, rs2, funct7, rest, signed, upper12, imm_i, imm_s, imm_b, imm_u, imm_j}
 use Rattle.rv_decode.specs.Table.{Row, LUI, AUIPC, JAL, JALR, BEQ, BNE, BLT, BGE, BLTU, BGEU, LB, LH, LW, LBU, LHU, SB, SH, SW, ADDI, SLTI, SLTIU, XORI, ORI, ANDI, SLLI, SRLI, SRAI, ADD, SUB, SLL, SLT, SLTU, XOR, SRL, SRA, OR, AND, FENCE, ECALL, EBREAK, Fixed, by_opcode, by_funct3, by_funct7, by_word, fixed, fits, listed, row_of}
-use Rattle.rv_decode.specs.Words.{branch_row, load_row, store_row, imm_row, shift_row, reg_row, instr_row, is_register, is_imm12, is_branch_offset, is_jump_offset, in_range, fixed_bits, imm_bits, r_operands, i_operands, s_operands, b_operands, u_operands, j_operands, operands, word_of, HasFields, IsInstruction, Decodes}
-use Rattle.rv_decode.proofs.Sums.{Parts, r_parts, i_parts, s_parts, b_parts, u_parts, j_parts, r_sum, i_sum, s_sum, b_sum, u_sum, j_sum, word_sum, upper12-split, upper20-split, bit7-split, bits8-split, bits25-split, bit31-split, rest-split, bits21-split, bit20-split, bits12-split}
+use Rattle.rv_decode.specs.Words.{branch_row, load_row, store_row, imm_row, shift_row, reg_row, instr_row, is_register, is_imm12, is_branch_offset, is_jump_offset, fixed_bits, imm_bits, r_operands, i_operands, s_operands, b_operands, u_operands, j_operands, word_of, HasFields, IsInstruction, Decodes}
+use Rattle.rv_decode.proofs.Sums.{r_parts, i_parts, s_parts, b_parts, u_parts, j_parts, r_sum, i_sum, s_sum, b_sum, u_sum, j_sum, word_sum, upper12-split, upper20-split, bit31-split, bits21-split, bit20-split, bits12-split}
 use Rattle.rv_decode.proofs.Immediates.{Stands, stands, imm12_back, imm12_fits, imm12_bits, store_whole, store_low, store_high, offset13, branch_whole, branch_back, branch_even, branch_fits, branch_bits, branch_low, branch_mid, branch_11, branch_12, offset21, jump_whole, jump_back, jump_even, jump_fits, jump_bits, jump_low, jump_11, jump_mid, jump_20}
 use Rattle.rv_decode.proofs.Listing.{listed_fits, fits_listed, HasFunct3, HasFunct7, branch_fixes, load_fixes, store_fixes, imm_fixes, shift_fixes, reg_fixes}
 
@@ -156,9 +156,6 @@ read_j o row s d imm w po h e =
     )
 
 -- ---- from the fields to the word's sum
-
-register_fits : (r n : ℕ) → r ≡ field n 5 r → is_register r ≡ true
-register_fits r n e = lt-ltb r 32 (omega arith)
 
 rd_fits : (d w : ℕ) → d ≡ rd w → is_register d ≡ true
 rd_fits d w e = lt-ltb d 32 (omega arith)

@@ -1,6 +1,6 @@
 -- The listing of RV32I: RISC-V Unprivileged ISA, chapter "RV32/64G Instruction Set Listings", table "RV32I Base
 -- Instruction Set". It stands on the numeric fields of a word alone.
-use Rattle.std.specs.Prelude.{ℕ, ◌+◌, ◌*◌, ◌^◌, Bool, ◌&&◌, ◌==◌, List, [], ◌∷◌, Option}
+use Rattle.std.specs.Prelude.{ℕ, Bool, ◌&&◌, ◌==◌, List, [], ◌∷◌, Option}
 use Rattle.std.specs.List.{find}
 use Rattle.rv_decode.specs.Fields.{opcode, funct3, funct7, rest}
 
