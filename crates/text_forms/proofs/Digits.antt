@@ -1,5 +1,5 @@
 -- What number_of is, as far as a text has been read.
-use Rattle.std.proofs.Common.{◌≡◌, ℕ, ◌+◌, ◌*◌, ◌^◌, ◌<◌, ◌≤◌, Bool, true, false, cond, ◌&&◌, List, [], ◌∷◌, length, take, get_or, Option, Some, None, inl, inr, refl, sym, ◌∙◌, lit<, arith}
+use Rattle.std.proofs.Common.{◌≡◌, ℕ, ◌+◌, ◌*◌, ◌^◌, ◌<◌, ◌≤◌, Bool, true, false, cond, ◌&&◌, List, [], ◌∷◌, length, take, get_or, Some, None, inl, inr, refl, sym, ◌∙◌, lit<, arith}
 use Rattle.std.specs.List.{list_all}
 use Rattle.std.proofs.lemmas.List.{take_all}
 use Rattle.std.specs.Char.{digit_value, is_digit}
@@ -84,12 +84,17 @@ chosen_number true true v w h = (refl, cc)
 chosen_number true false v w h = cc
 chosen_number false small v w h = cc
 
--- eight hexadecimal digits fit 32 bits
-pub number_of-hex : (ds : List ℕ) (v : ℕ) → number_of 16 ds ≡ Some v → length ds ≤ 8 → v < 2 ^ 32
+-- so many hexadecimal digits are below 16 to their number
+pub number_of-hex : (ds : List ℕ) (v : ℕ) → number_of 16 ds ≡ Some v → v < 16 ^ length ds
 unfolding number_of
-number_of-hex ds v h few =
+number_of-hex ds v h =
     let parts = chosen_number (list_all (λ c. is_digit c 16) ds) _ _ _ h in
     let below : digits_value 16 ds < 16 ^ length ds = digits_value-lt 16 ds (all_digits 16 ds parts.0) in
+    rw parts.1 at below
+
+-- and eight of them fit 32 bits
+pub number_of-word : (ds : List ℕ) (v : ℕ) → number_of 16 ds ≡ Some v → length ds ≤ 8 → v < 2 ^ 32
+number_of-word ds v h few =
+    let below : v < 16 ^ length ds = number_of-hex ds v h in
     let most : 16 ^ length ds ≤ 16 ^ 8 = pow-le-pow_right {n = 16} (lit< tt) few in
-    let is : digits_value 16 ds ≡ v = parts.1 in
-    omega (arith, below, most, is)
+    omega (arith, below, most)

@@ -3,6 +3,8 @@
 
 mod lines;
 mod numbers;
+#[cfg(test)]
+mod tests;
 
 pub use lines::{Words, next_line, words_in};
 pub use numbers::{decimal, hex_number};

@@ -1,6 +1,6 @@
 //! Numbers in texts.
 
-ghost use Rattle.std.specs.Prelude.{◌≡◌, ◌+◌, ◌*◌, ◌^◌, ◌<◌, ◌≤◌, SomeIff};
+ghost use Rattle.std.specs.Prelude.{◌≡◌, ◌+◌, ◌*◌, ◌^◌, ◌<◌, ◌≤◌, SomeIff, IfSome};
 ghost use Rattle.std.specs.Char.{digit_value};
 ghost use Rattle.text_forms.specs.Numbers.{number_of, decimal_of, hex_of};
 
@@ -44,7 +44,8 @@ pub fn decimal(digits: &[u8]) -> Option<u64>
 /// The hexadecimal number that these digits are: `count` of them, at most 8, of either case.
 pub fn hex_number(count: usize, digits: &[u8]) -> Option<u32>
     requires { count ≤ 8 }
-    ensures { result ≡ hex_of count digits.now }
+    ensures value { result ≡ hex_of count digits.now }
+    ensures below { IfSome result (λ number. number < 16 ^ count) }
 {
     if digits.len() != count {
         return None;
