@@ -9,3 +9,5 @@ pub mod Memories
 pub mod Own
 pub mod Breaks
 pub mod Others
+pub mod Orders
+pub mod Added

@@ -39,7 +39,7 @@ access_beside w actor Tick past is = absurd (false≢true is)
 access_beside w actor Release past is = absurd (false≢true is)
 
 -- an entry of an application is an access
-access_of : (entry : Entry) → IsTrue (actor_fits entry) → 1 ≤ entry.actor → IsTrue (is_access entry.act)
+pub access_of : (entry : Entry) → IsTrue (actor_fits entry) → 1 ≤ entry.actor → IsTrue (is_access entry.act)
 access_of entry fits application =
     let access = is_access entry.act in
     elim (or_cases (access && nat_le 1 entry.actor && nat_le entry.actor 8) (not access && (entry.actor == 0)) fits) [
@@ -55,7 +55,7 @@ first_other true entry rest h = absurd cc
 first_other false entry rest h = (refl, h)
 
 -- an actor that is not the measurer is 1 or more
-application_of : (entry : Entry) → (nat_le 0 entry.actor && nat_lt entry.actor 1) ≡ false → 1 ≤ entry.actor
+pub application_of : (entry : Entry) → (nat_le 0 entry.actor && nat_lt entry.actor 1) ≡ false → 1 ≤ entry.actor
 application_of entry other =
     elim (cases_lt entry.actor 1) [
       | inl measurer ↦ absurd (false≢true (sym other ∙ and_from (nat_le 0 entry.actor) _ (le-leb 0 entry.actor (omega arith)) (lt-ltb entry.actor 1 measurer)))
@@ -63,7 +63,7 @@ application_of entry other =
     ]
 
 -- the pass is the same after such an entry
-same_longer : (entry : Entry) (pass : Pass) → is_copy entry.act ≡ false → is_end entry.act ≡ false → is_release entry.act ≡ false → SamePass pass (longer entry pass)
+pub same_longer : (entry : Entry) (pass : Pass) → is_copy entry.act ≡ false → is_end entry.act ≡ false → is_release entry.act ≡ false → SamePass pass (longer entry pass)
 same_longer entry pass copy end release = record {
   discipline = refl;
   counter = refl;

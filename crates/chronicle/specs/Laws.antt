@@ -1,6 +1,8 @@
 -- What the laws say: memory that goes on from an earlier place, the first break of a rule, and a pass as
 -- its measurer follows it.
-use Rattle.std.specs.Prelude.{◌≡◌, ℕ, ◌-◌, ◌≤◌, List, [], ◌∷◌, length, reverse, take, drop, slice_get, Some, unwrap_or}
+use Rattle.std.specs.Prelude.{◌≡◌, ℕ, ◌-◌, ◌≤◌, Bool, true, false, ◌==◌, List, [], ◌∷◌, length, reverse, take, drop, slice_get, Some, unwrap_or}
+use Rattle.history.specs.declared.events.Act.{Act}
+use Rattle.history.specs.declared.events.Act.TheVariants.{Fetch, Load, Store, Start, Copy, End, Tick, Release}
 use Rattle.history.specs.declared.events.Entry.{Entry}
 use Rattle.history.specs.Layout.{Setting}
 use Rattle.history.specs.Memory.{Memory, back, put_at}
@@ -8,6 +10,9 @@ use Rattle.history.specs.Pass.{Pass, pass_after, copied_of, is_ended, is_release
 use Rattle.history.specs.Legal.{IsLegal}
 use Rattle.history.specs.Copied.{copied_bytes}
 use Rattle.history.specs.Broken.{Break, broken_rule}
+use Rattle.lock_plan.specs.declared.steps.PlanStep.{PlanStep}
+use Rattle.lock_plan.specs.declared.steps.PlanStep.TheVariants as next
+use Rattle.lock_plan.specs.Plans.{PlanState, plan_after, after_start, pass_changed, with_copy, with_end, with_release}
 
 -- memory once the entry has come
 abbrev pub stored : Entry → Memory → Memory
@@ -47,3 +52,33 @@ pub record KeepsPass (w : Setting) (old new : List Entry) (pass : Pass) : Type 0
   pub last : pass_after (reverse new) ≡ Some now
   pub same : SamePass pass now
   pub bytes : copied_bytes w (reverse new) ≡ copied_bytes w (reverse old)
+
+-- the plan after a history
+abbrev pub plan_of : Setting → List Entry → PlanState
+plan_of w history = plan_after w.first w.attested (reverse history)
+
+-- the plan once this act has come
+abbrev pub plan_step : Act → PlanState → PlanState
+plan_step (Start discipline counter) plan = after_start discipline plan
+plan_step (Copy block) plan = pass_changed with_copy plan
+plan_step End plan = pass_changed with_end plan
+plan_step Release plan = pass_changed with_release plan
+plan_step (Fetch addr value) plan = plan
+plan_step (Load addr width value) plan = plan
+plan_step (Store addr width value) plan = plan
+plan_step Tick plan = plan
+
+-- where this step of the measurer comes next, the act is in order: accesses and Ticks always are
+abbrev pub is_next : PlanStep → Act → Bool
+is_next step (Fetch addr value) = true
+is_next step (Load addr width value) = true
+is_next step (Store addr width value) = true
+is_next step Tick = true
+is_next next.Start (Start discipline counter) = true
+is_next step (Start discipline counter) = false
+is_next (next.Copy expected) (Copy block) = block == expected
+is_next step (Copy block) = false
+is_next next.End End = true
+is_next step End = false
+is_next next.Release Release = true
+is_next step Release = false

@@ -1,1 +1,4 @@
 pub mod Laws
+pub mod Settings
+pub mod Worlds
+pub mod Ports

@@ -3,17 +3,20 @@
 ghost use Rattle.std.specs.Prelude.{◌≡◌, ℕ, ◌+◌, ◌^◌, ◌<◌, ◌≤◌, ◌⊎◌, ◌↔◌, List, [], ◌∷◌, ◌++◌, length, reverse, All, slice_get, take, false, Some, None};
 ghost use Rattle.history.specs.declared.events.Width.{Width};
 ghost use Rattle.history.specs.declared.events.Discipline.{Discipline};
+ghost use Rattle.history.specs.declared.events.Act.{Act};
 ghost use Rattle.history.specs.declared.events.Act.TheVariants.{End, Release};
 ghost use Rattle.history.specs.declared.events.Entry.{Entry};
 ghost use Rattle.history.specs.Layout.{Setting, IsSetting, width_bytes};
 ghost use Rattle.history.specs.Memory.{Memory, back, memory_after, memory_at, own, value_in};
 ghost use Rattle.history.specs.Pass.{Pass, copied_of, is_released, pass_after, pass_step, start_of};
-ghost use Rattle.history.specs.Legal.{IsLegal, MayFollow};
+ghost use Rattle.history.specs.Legal.{IsLegal, MayFollow, in_order};
 ghost use Rattle.history.specs.Broken.{Break, broken, broken_rule};
 ghost use Rattle.history.specs.Copied.{copied_bytes, copied_step};
 ghost use Rattle.history.specs.Instants.{EndsAt, ReleasesAt};
 ghost use Rattle.history.specs.Sliding.{LocksSlide, CopiedIsMemory};
-ghost use Rattle.chronicle.specs.Laws.{IsFirstBreak, KeepsPass, between, patched, stored};
+ghost use Rattle.lock_plan.specs.Plans.{next_step};
+ghost use Rattle.chronicle.specs.Laws.{IsFirstBreak, KeepsPass, between, is_next, patched, plan_of, plan_step, stored};
+ghost use Rattle.chronicle.specs.Ports.{Adds, OthersFollow};
 
 /// The entries before a place, as the definitions look back over them: how many they are, the one
 /// that each place adds, and that later entries change none of them.
@@ -157,4 +160,52 @@ pub fn places_of_a_pass()
     ensures whole { (w : Setting) (history : List Entry) → IsLegal w history
         → (form : Discipline) (number start end : ℕ) → (e : EndsAt history form number start end)
         → (copied_of e.pass ≡ w.attested) × (start < end) }
+{}
+
+/// What the order rule allows is what the plan of the pass names next. So who knows the plan knows which
+/// step is in order.
+pub fn order_by_plan()
+    ensures { (w : Setting) (history : List Entry) → IsLegal w history → (act : Act)
+        → in_order w (pass_after (reverse history)) act ≡ is_next (next_step (plan_of w history)) act }
+{}
+
+/// Entries of others change neither the order nor the plan of a pass: both are those of the measurer's
+/// own entries. So a measurer that has seen others' entries may take the step that was in order before.
+pub fn others_keep_the_order()
+    ensures order { (w : Setting) (history others : List Entry)
+        → IsLegal w (history ++ others) → own others 0 1 ≡ [] → (act : Act)
+        → in_order w (pass_after (reverse (history ++ others))) act
+        ≡ in_order w (pass_after (reverse history)) act }
+    ensures own_order { (w : Setting) (history : List Entry) → IsLegal w history → (act : Act)
+        → in_order w (pass_after (reverse history)) act
+        ≡ in_order w (pass_after (reverse (own history 0 1))) act }
+    ensures own_plan { (w : Setting) (history : List Entry) → IsLegal w history
+        → plan_of w history ≡ plan_of w (own history 0 1) }
+{}
+
+/// What the answers of a measurer's port say of the plan: others' entries leave it as it is, and the
+/// own entry changes it as its act does.
+pub fn answers_move_the_plan()
+    ensures others { (w : Setting) (old new : List Entry) → IsLegal w new → OthersFollow 0 1 old new
+        → plan_of w new ≡ plan_of w old }
+    ensures added { (w : Setting) (old new : List Entry) (entry : Entry)
+        → IsLegal w new → Adds 0 1 old new entry
+        → plan_of w new ≡ plan_step entry.act (plan_of w old) }
+{}
+
+/// What the answers of a port say of the entries of its own range: others' entries add none to them, and
+/// the own entry comes last. A call that made no entry can be joined with a later one.
+pub fn answers_add_own_entries()
+    ensures others { (low high : ℕ) (old new : List Entry) → OthersFollow low high old new
+        → own new low high ≡ own old low high }
+    ensures added { (low high : ℕ) (old new : List Entry) (entry : Entry)
+        → Adds low high old new entry → low ≤ entry.actor → entry.actor < high
+        → own new low high ≡ own old low high ++ entry ∷ [] }
+    ensures none { (low high : ℕ) (history : List Entry) → OthersFollow low high history history }
+    ensures others_join { (low high : ℕ) (first second third : List Entry)
+        → OthersFollow low high first second → OthersFollow low high second third
+        → OthersFollow low high first third }
+    ensures added_join { (low high : ℕ) (first second third : List Entry) (entry : Entry)
+        → OthersFollow low high first second → Adds low high second third entry
+        → Adds low high first third entry }
 {}

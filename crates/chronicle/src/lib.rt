@@ -1,12 +1,26 @@
-//! What holds of each history that plain memory and the order of a measurement allow.
+//! What a device's memory begins with, what is recorded of it, and what may be asked of it: the world, the
+//! chronicle, and the ports of applications and of the measurer. And what holds of each history that plain
+//! memory and the order of a measurement allow.
 //!
 //! Each law is a public function with an empty body whose contract is the law, over the definitions of the
-//! crate `history` alone. There is no code that could be wrong, so the crate has no must-fail edits.
+//! crate `history` and of the ports' answers.
 #![tactic(auto)]
 
+mod answers;
 mod laws;
+mod ports;
+mod worlds;
 
+pub use answers::{Read, Step, Stored};
+pub use block_memory::Geometry;
+pub use history::{Act, Discipline, Entry, Width};
 pub use laws::{
-    broken_is_exact, copied_is_memory, locks_slide, memory_is_bytes, memory_later, one_entry_more,
+    answers_add_own_entries, answers_move_the_plan, broken_is_exact, copied_is_memory, locks_slide,
+    memory_is_bytes, memory_later, one_entry_more, order_by_plan, others_keep_the_order,
     others_keep_the_pass, own_entries, places_of_a_history, places_of_a_pass, prefixes_are_legal,
 };
+pub use ports::{BlockPort, Chronicled, MemPort, Viewed};
+pub use worlds::{Chronicle, Shape, World};
+
+#[cfg(test)]
+mod tests;
