@@ -1,0 +1,4 @@
+pub mod Effects
+pub mod Decoded
+pub mod Runs
+pub mod Worked
