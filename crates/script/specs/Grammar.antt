@@ -1,6 +1,6 @@
 -- The text of a script, line by line.
-use Rattle.std.specs.Prelude.{ℕ, zero, suc, ◌+◌, ◌-◌, ◌*◌, ◌^◌, Bool, true, false, not, ◌&&◌, ◌||◌, ◌==◌, nat_le, nat_lt, if◌then◌else◌, List, [], ◌∷◌, ◌++◌, length, take, drop, replicate, slice_index, codes, Option, Some, None, Result, Ok, Err}
-use Rattle.std.specs.Option.{option_map, option_and_then}
+use Rattle.std.specs.Prelude.{ℕ, ◌+◌, ◌-◌, ◌*◌, Bool, ◌&&◌, ◌==◌, nat_le, nat_lt, if◌then◌else◌, List, [], ◌∷◌, ◌++◌, length, take, drop, replicate, slice_index, codes, Option, Some, None, Result, Ok, Err}
+use Rattle.std.specs.Option.{option_and_then}
 use Rattle.std.specs.Result.{result_ok}
 use Rattle.std.specs.List.{list_all}
 use Rattle.std.specs.Str.{bytes_eq}
@@ -9,14 +9,9 @@ use Rattle.text_forms.specs.Lines.{lines_of, words_of}
 use Rattle.text_forms.specs.Numbers.{decimal_of, hex_of}
 use Rattle.history.specs.declared.events.Width.{Width}
 use Rattle.history.specs.declared.events.Width.TheVariants.{Byte, Half, Word}
-use Rattle.history.specs.declared.events.Discipline.{Discipline}
-use Rattle.history.specs.declared.events.Discipline.TheVariants.{All, AllExt, Dec, Inc, IncExt}
-use Rattle.history.specs.declared.events.Entry.{Entry}
-use Rattle.history.specs.Layout.{Layout, Setting, is_layout, byte_count, past_end, width_bytes, fits, is_aligned}
-use Rattle.history.specs.Names.{word_of}
-use Rattle.history.specs.Pass.{pass_after}
-use Rattle.history.specs.Legal.{in_order, is_access}
-use Rattle.script.specs.Steps.{act_of, entry_of}
+use Rattle.history.specs.Layout.{Layout, is_layout, byte_count, past_end, width_bytes}
+use Rattle.history.specs.Names.{discipline_of}
+use Rattle.script.specs.Measuring.{measured_after, may_come}
 use Rattle.script.specs.declared.steps.Step.{Step}
 use Rattle.script.specs.declared.steps.Step.TheVariants as steps
 use Rattle.script.specs.Programs.{Program}
@@ -34,29 +29,19 @@ when test value = if test then Some value else None
 -- the words of the widths
 abbrev pub width_of : List ℕ → Option Width
 width_of word =
-  if bytes_eq word (codes "1") then Some Byte
-  else (if bytes_eq word (codes "2") then Some Half
-  else (if bytes_eq word (codes "4") then Some Word
-  else None))
-
--- the words of the disciplines
-abbrev pub discipline_of : List ℕ → Option Discipline
-discipline_of word =
-  if bytes_eq word (word_of All) then Some All
-  else (if bytes_eq word (word_of AllExt) then Some AllExt
-  else (if bytes_eq word (word_of Dec) then Some Dec
-  else (if bytes_eq word (word_of Inc) then Some Inc
-  else (if bytes_eq word (word_of IncExt) then Some IncExt
-  else None))))
+    if bytes_eq word (codes "1") then Some Byte
+    else (if bytes_eq word (codes "2") then Some Half
+    else (if bytes_eq word (codes "4") then Some Word
+    else None))
 
 -- a step's line, by its words: a step of one word, of three, of four
 abbrev pub short_step : List ℕ → Option Step
 short_step verb =
-  if bytes_eq verb (codes "copy") then Some steps.Copy
-  else (if bytes_eq verb (codes "end") then Some steps.End
-  else (if bytes_eq verb (codes "tick") then Some steps.Tick
-  else (if bytes_eq verb (codes "release") then Some steps.Release
-  else None)))
+    if bytes_eq verb (codes "copy") then Some steps.Copy
+    else (if bytes_eq verb (codes "end") then Some steps.End
+    else (if bytes_eq verb (codes "tick") then Some steps.Tick
+    else (if bytes_eq verb (codes "release") then Some steps.Release
+    else None)))
 
 -- `load W ADDR`
 unfoldable pub load_step : List ℕ → List ℕ → Option Step
@@ -86,23 +71,6 @@ step_of (verb ∷ []) = short_step verb
 step_of (verb ∷ w ∷ addr ∷ []) = if bytes_eq verb (codes "load") then load_step w addr else None
 step_of (verb ∷ a ∷ b ∷ c ∷ []) = if bytes_eq verb (codes "store") then store_step a b c else (if bytes_eq verb (codes "start") then start_step a b c else None)
 step_of _ = None
-
--- the measuring steps among these steps, as entries, the newest first, after the entries given
-abbrev pub measured_with : Setting → List Entry → Step → List Entry
-measured_with w measured (steps.Load width addr) = measured
-measured_with w measured (steps.Store width addr value) = measured
-measured_with w measured step = entry_of w measured step ∷ measured
-
-abbrev pub measured_after : Setting → List Entry → List Step → List Entry
-measured_after w measured [] = measured
-measured_after w measured (step ∷ steps) = measured_after w (measured_with w measured step) steps
-
--- An access has to fit and to be aligned. A step of the measurer has to be one that may come next, after
--- the measuring steps before it.
-abbrev pub may_come : Setting → List Entry → Step → Bool
-may_come w measured (steps.Load width addr) = fits w.layout addr width && is_aligned addr width
-may_come w measured (steps.Store width addr value) = fits w.layout addr width && is_aligned addr width
-may_come w measured step = in_order w (pass_after measured) (act_of w measured step)
 
 -- the layout of a device, if it may be one
 abbrev pub layout_of : ℕ → ℕ → ℕ → Option Layout
@@ -145,20 +113,20 @@ fill_line program addr hex = do
   address ← hex_of 8 addr
   bytes ← result_ok (decode_of hex)
   when (nat_le 1 (length bytes) && nat_le program.setting.layout.base address && nat_le (address + length bytes) (past_end program.setting.layout))
-    (drafts.Opened (record program { setting = record program.setting { image = filled program.setting.image (address - program.setting.layout.base) bytes } }))
+      (drafts.Opened (record program { setting = record program.setting { image = filled program.setting.image (address - program.setting.layout.base) bytes } }))
 
 -- a step
 unfoldable pub step_line : Program → List (List ℕ) → Option Draft
 step_line program words = do
   step ← step_of words
   when (may_come program.setting (measured_after program.setting [] program.steps) step)
-    (drafts.Opened (record program { steps = program.steps ++ step ∷ [] }))
+      (drafts.Opened (record program { steps = program.steps ++ step ∷ [] }))
 
 -- after the key come fills, and then steps
 unfoldable pub body_line : Program → List (List ℕ) → Option Draft
 body_line program (verb ∷ addr ∷ hex ∷ []) =
-  if bytes_eq verb (codes "fill") && (length program.steps == 0) then fill_line program addr hex
-  else step_line program (verb ∷ addr ∷ hex ∷ [])
+    if bytes_eq verb (codes "fill") && (length program.steps == 0) then fill_line program addr hex
+    else step_line program (verb ∷ addr ∷ hex ∷ [])
 body_line program words = step_line program words
 
 -- the header's lines, and the body
@@ -174,9 +142,9 @@ draft_line (drafts.Opened program) words = body_line program words
 -- a line of nothing, and a comment, are passed over; a comment is ASCII
 abbrev pub read_line : Draft → List ℕ → Option Draft
 read_line draft line =
-  if length line == 0 then Some draft
-  else (if slice_index line 0 == 35 then when (list_all (λ byte. nat_lt byte 128) line) draft
-  else draft_line draft (words_of line))
+    if length line == 0 then Some draft
+    else (if slice_index line 0 == 35 then when (list_all (λ byte. nat_lt byte 128) line) draft
+    else draft_line draft (words_of line))
 
 -- a script is whole once its header is
 abbrev pub whole : ℕ → Draft → Result Program ℕ

@@ -1,5 +1,11 @@
 pub mod Tags
 pub mod Steps
 pub mod Programs
+pub mod Measuring
+pub mod Reading
 pub mod Grammar
+pub mod Gives
 pub mod Printed
+pub mod Attested
+pub mod Tagging
+pub mod Running

@@ -1,5 +1,5 @@
 -- What a script prints, line by line.
-use Rattle.std.specs.Prelude.{ℕ, suc, ◌+◌, if◌then◌else◌, List, [], ◌∷◌, ◌++◌, length, codes, Option, Some, None}
+use Rattle.std.specs.Prelude.{ℕ, ◌+◌, if◌then◌else◌, List, [], ◌∷◌, ◌++◌, length, codes, Option, Some, None}
 use Rattle.std.specs.Int.{to_be_bytes, w16, w32}
 use Rattle.std.specs.Fmt.{decimal}
 use Rattle.hex.specs.Hex.{encode_lower}
@@ -12,7 +12,7 @@ use Rattle.history.specs.Pass.{Pass, pass_after, start_of, is_end}
 use Rattle.history.specs.Copied.{copied_bytes}
 use Rattle.script.specs.declared.steps.Step.{Step}
 use Rattle.script.specs.declared.steps.Step.TheVariants.{Load, Store, Start, Copy, End, Tick, Release}
-use Rattle.script.specs.Tags.{Asked, report_tag, note_tag}
+use Rattle.script.specs.Tags.{report_tag, note_tag}
 use Rattle.script.specs.Steps.{next_block, entry_of, is_full, waits}
 use Rattle.script.specs.Programs.{Program}
 
@@ -71,9 +71,9 @@ nonce_with nonce _ = nonce
 abbrev pub steps_printed : Setting → List ℕ → List ℕ → List Entry → List Step → List ℕ
 steps_printed w key nonce past [] = line (codes "entries " ++ decimal (length past))
 steps_printed w key nonce past (step ∷ steps) =
-  if is_full w past then line (codes "full " ++ decimal w.cap)
-  else (if waits w past step then line (codes "again " ++ decimal (length past)) ++ steps_printed w key nonce past steps
-  else step_printed w key nonce past step ++ steps_printed w key (nonce_with nonce step) (entry_of w past step ∷ past) steps)
+    if is_full w past then line (codes "full " ++ decimal w.cap)
+    else (if waits w past step then line (codes "again " ++ decimal (length past)) ++ steps_printed w key nonce past steps
+    else step_printed w key nonce past step ++ steps_printed w key (nonce_with nonce step) (entry_of w past step ∷ past) steps)
 
 -- what a script prints
 abbrev pub printed : Program → List ℕ

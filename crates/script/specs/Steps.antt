@@ -1,6 +1,5 @@
 -- What the steps of a script do to the history.
 use Rattle.std.specs.Prelude.{ℕ, ◌+◌, Bool, true, false, not, nat_lt, if◌then◌else◌, List, [], ◌∷◌, length, Option, Some, None}
-use Rattle.history.specs.declared.events.Width.{Width}
 use Rattle.history.specs.declared.events.Act.{Act}
 use Rattle.history.specs.declared.events.Act.TheVariants as acts
 use Rattle.history.specs.declared.events.Entry.{Entry}
@@ -50,14 +49,14 @@ waits w past _ = false
 abbrev pub entries_after : Setting → List Entry → List Step → List Entry
 entries_after w past [] = past
 entries_after w past (step ∷ steps) =
-  if is_full w past then past
-  else (if waits w past step then entries_after w past steps
-  else entries_after w (entry_of w past step ∷ past) steps)
+    if is_full w past then past
+    else (if waits w past step then entries_after w past steps
+    else entries_after w (entry_of w past step ∷ past) steps)
 
 -- a step finds the history full
 abbrev pub meets_full : Setting → List Entry → List Step → Bool
 meets_full w past [] = false
 meets_full w past (step ∷ steps) =
-  if is_full w past then true
-  else (if waits w past step then meets_full w past steps
-  else meets_full w (entry_of w past step ∷ past) steps)
+    if is_full w past then true
+    else (if waits w past step then meets_full w past steps
+    else meets_full w (entry_of w past step ∷ past) steps)

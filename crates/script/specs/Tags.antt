@@ -13,13 +13,13 @@ pub record Asked : Type 0 where
   pub nonce : List ℕ
 
 -- the 48 bytes that a report begins with: what was asked for, and which blocks of which memory were attested
-abbrev pub head_bytes : Asked → Setting → List ℕ
+unfoldable pub head_bytes : Asked → Setting → List ℕ
 head_bytes asked w =
     codes "TMR1" ++ (code_of asked.discipline ∷ 0 ∷ 0 ∷ 0 ∷ []) ++ to_be_bytes w64 asked.counter ++ asked.nonce
     ++ to_be_bytes w32 w.layout.base ++ to_be_bytes w32 w.layout.size ++ to_be_bytes w32 w.first ++ to_be_bytes w32 w.attested
 
 -- the places of Start and End
-abbrev pub tail_bytes : ℕ → ℕ → List ℕ
+unfoldable pub tail_bytes : ℕ → ℕ → List ℕ
 tail_bytes start end = to_be_bytes w64 start ++ to_be_bytes w64 end
 
 -- the tag of a report on these attested bytes
@@ -27,7 +27,7 @@ unfoldable pub report_tag : List ℕ → Asked → Setting → List ℕ → ℕ 
 report_tag key asked w attested start end = hmac key (head_bytes asked w ++ attested ++ tail_bytes start end)
 
 -- the 40 bytes that a release note begins with: the counter, and the places of Start, End and Release
-abbrev pub note_head_bytes : ℕ → ℕ → ℕ → ℕ → List ℕ
+unfoldable pub note_head_bytes : ℕ → ℕ → ℕ → ℕ → List ℕ
 note_head_bytes counter start end release =
     codes "TMN1" ++ (0 ∷ 0 ∷ 0 ∷ 0 ∷ []) ++ to_be_bytes w64 counter ++ to_be_bytes w64 start ++ to_be_bytes w64 end ++ to_be_bytes w64 release
 

@@ -1,0 +1,12 @@
+pub mod Layouts
+pub mod Measured
+pub mod TaggerSteps
+pub mod Orders
+pub mod Legals
+pub mod Parts
+pub mod Shown
+pub mod Tagged
+pub mod Released
+pub mod CoreSteps
+pub mod Midways
+pub mod Runs
