@@ -1,3 +1,5 @@
 pub mod Fakes
 pub mod Faults
+pub mod Files
+pub mod FilesInMemory
 pub mod Streams

@@ -22,3 +22,25 @@ pub enum ReadFault {
     #[error("not found")]
     Missing,
 }
+
+/// Why a file couldn't be written.
+#[derive(Clone, Copy, Debug, PartialEq, Eq, Error)]
+pub enum FileFault {
+    /// A call failed: the object's count of faults rose in this call, or stands at `2^64 - 1`.
+    #[error("a file's call failed")]
+    Failed,
+    /// Memory ran out. It may come at any time.
+    #[error("out of memory")]
+    Memory,
+}
+
+/// Why a device file or a verifier file was refused.
+#[derive(Clone, Copy, Debug, PartialEq, Eq, Error)]
+pub enum DeviceFault {
+    /// The first rule of the file's grammar that it breaks, by the rule's number.
+    #[error("rule {0} is broken")]
+    Rule(u32),
+    /// Memory ran out. It may come at any time.
+    #[error("out of memory")]
+    Memory,
+}

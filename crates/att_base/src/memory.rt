@@ -4,37 +4,11 @@ ghost use Rattle.att_base.specs.Faults.{one_more, Rose};
 ghost use Rattle.att_base.specs.Streams.{put_before, put_after, IsDrained};
 ghost use Rattle.att_base.specs.Fakes.{new_source, source_after, source_failed, new_sink, sink_after, sink_failed};
 
+use crate::calls::Calls;
 use crate::faults::Failed;
 use crate::streams::{Sink, Source};
 use std::alloc::{AllocError, Global};
 use std::marker::Model;
-
-// The calls on one object, numbered from 0: which of them fail, which is next, and how many failed.
-#[derive(Drop)]
-struct Calls {
-    fails: Vec<u64>,
-    next: u64,
-    faults: u64,
-}
-
-impl Calls {
-    // Counts the next call, and says whether it is one that fails.
-    fn begin(&mut self) -> bool
-        ensures listed { IsTrue result ↔ Contains self.old.fails.items self.old.next }
-        ensures counted { self.new ≡ record self.old { next = one_more self.old.next } }
-    {
-        let listed = self.fails.contains(&self.next);
-        self.next = self.next.saturating_add(1);
-        listed
-    }
-
-    fn fail(&mut self) -> Failed
-        ensures { self.new ≡ record self.old { faults = one_more self.old.faults } }
-    {
-        self.faults = self.faults.saturating_add(1);
-        Failed
-    }
-}
 
 // Copies the front of `from` to the front of `into`, as much as fits and at most `most` bytes, and gives the number.
 fn copy_front(from: &[u8], into: &mut [u8], most: usize) -> usize
@@ -79,11 +53,7 @@ impl MemSource {
         requires { 1 ≤ step }
         ensures { result ≡ new_source bytes.items step fails.items }
     {
-        let calls = Calls {
-            fails,
-            next: 0,
-            faults: 0,
-        };
+        let calls = Calls::new(fails);
         MemSource {
             bytes,
             at: 0,
@@ -167,11 +137,7 @@ impl MemSink {
         ensures { IfOk result (λ s. s ≡ new_sink room step fails.items) }
     {
         let held = Vec::with_capacity(alloc, room)?;
-        let calls = Calls {
-            fails,
-            next: 0,
-            faults: 0,
-        };
+        let calls = Calls::new(fails);
         Ok(MemSink {
             held,
             room,

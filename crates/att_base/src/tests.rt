@@ -1,11 +1,14 @@
 // What no clause says: that calls succeed with ample memory, and that layers above can join the clauses.
 ghost use Rattle.std.specs.Prelude.{◌≡◌, ℕ, ◌+◌, ◌^◌, ◌<◌, ◌≤◌, ◌⊎◌, List, length, Some, OnOk, IsOk, IsErrOf};
 ghost use Rattle.att_base.specs.Faults.{Rose};
+ghost use Rattle.att_base.specs.Files.{IsName};
 ghost use Rattle.att_base.specs.Streams.{put_after};
 
 use super::*;
-use std::alloc::Global;
+use std::alloc::{AllocError, Global};
+use std::process::Abort;
 use std::test::Fail;
+use std::{env, fs};
 
 // Reads all and writes all, as a layer above does. Where no read failed and memory was found, `TooLong` comes
 // exactly where more than `limit` bytes were left: `copied` and `too_long` say so together.
@@ -128,5 +131,171 @@ fn main_can_pass_its_streams(rt: HostRuntime) -> Result<(), Fail> {
     let _input = StdSource::new(rt.stdin());
     put_all(&mut StdSink::new(rt.stdout()), b"")?;
     put_all(&mut StdErr::new(rt.stderr()), b"")?;
+    Ok(())
+}
+
+// Two files: `a` holds six bytes, `b` none. One call fails.
+fn two_files(alloc: Global, fails: u64) -> Result<MemFiles, AllocError> {
+    let mut files = Vec::new(alloc);
+    files.push(NamedFile::copied(alloc, "a", &TEXT)?)?;
+    let name = String::from_str(alloc, "b")?;
+    files.push(NamedFile::new(name, Vec::new(alloc)))?;
+    let fails = [fails].to_vec(alloc)?;
+    Ok(MemFiles::new(alloc, files, fails))
+}
+
+// The number of a call that is never made.
+const NEVER: u64 = 1_000_000;
+
+// Reads a file whole, as a layer above does.
+fn expect_read<F: Files>(
+    rt: &impl Abort,
+    alloc: Global,
+    files: &mut F,
+    name: &str,
+    limit: u64,
+    want: Result<&str, ReadFault>,
+) {
+    assert!(rt; !name.is_empty() && name.len() <= 255);
+    match (read_whole(alloc, files, name, limit), want) {
+        (Ok(bytes), Ok(text)) => assert_eq!(rt; bytes.as_slice(), text.as_bytes(), "at {name}"),
+        (Err(fault), Err(expected)) => assert_eq!(rt; fault, expected, "at {name}"),
+        _ => assert!(rt; false, "at {name}, limit {limit}"),
+    }
+}
+
+fn expect_bytes(rt: &impl Abort, files: &MemFiles, name: &str, want: &str) {
+    match files.bytes_of(name) {
+        Some(bytes) => assert_eq!(rt; bytes, want.as_bytes(), "at {name}"),
+        None => assert!(rt; false, "at {name}"),
+    }
+}
+
+#[test]
+fn files_in_memory_are_read_and_written(rt: HostRuntime) -> Result<(), Fail> {
+    let alloc = rt.alloc();
+    names_are_apart();
+    let mut files = two_files(alloc, NEVER)?;
+    expect_read(&rt, alloc, &mut files, "a", u64::MAX, Ok("attest"));
+    expect_read(&rt, alloc, &mut files, "a", 6, Ok("attest"));
+    expect_read(&rt, alloc, &mut files, "a", 5, Err(ReadFault::TooLong));
+    expect_read(&rt, alloc, &mut files, "b", 0, Ok(""));
+    expect_read(&rt, alloc, &mut files, "c", 9, Err(ReadFault::Missing));
+    files.append(alloc, "a", b"!")?;
+    files.clear(alloc, "c")?;
+    files.append(alloc, "d", b"new")?;
+    write_whole(alloc, &mut files, "b", b"more")?;
+    for (name, want) in [("a", "attest!"), ("b", "more"), ("c", ""), ("d", "new")] {
+        expect_bytes(&rt, &files, name, want);
+    }
+    assert!(rt; files.bytes_of("e").is_none());
+    files.clear(alloc, "a")?;
+    expect_bytes(&rt, &files, "a", "");
+    assert_eq!(rt; files.count(), 4);
+    Ok(())
+}
+
+// Whether a read, a clear and an append succeed, and what the file has then.
+fn expect_turn(
+    rt: &impl Abort,
+    alloc: Global,
+    call: u64,
+    want: (bool, bool, bool, &str),
+) -> Result<(), AllocError> {
+    let (reads, clears, appends, bytes) = want;
+    let mut files = two_files(alloc, call)?;
+    let read = files.read(alloc, "a", 6).is_ok();
+    let cleared = files.clear(alloc, "a").is_ok();
+    let appended = files.append(alloc, "a", b"xyz!?").is_ok();
+    assert_eq!(rt;
+        (read, cleared, appended),
+        (reads, clears, appends),
+        "at call {call}"
+    );
+    expect_bytes(rt, &files, "a", bytes);
+    Ok(())
+}
+
+#[test]
+fn each_call_on_files_fails_in_turn(rt: HostRuntime) -> Result<(), Fail> {
+    let alloc = rt.alloc();
+    expect_turn(&rt, alloc, 0, (false, true, true, "xyz!?"))?;
+    expect_turn(&rt, alloc, 1, (true, false, true, "attestxyz!?"))?;
+    expect_turn(&rt, alloc, 2, (true, true, false, "xy"))?;
+    expect_turn(&rt, alloc, 3, (true, true, true, "xyz!?"))?;
+    Ok(())
+}
+
+// Writes a file whole. Where that succeeds, the next call is the one that fails: so many calls were made.
+fn expect_write(
+    rt: &impl Abort,
+    alloc: Global,
+    call: u64,
+    bytes: &str,
+    want: Result<&str, &str>,
+) -> Result<(), AllocError> {
+    let mut files = two_files(alloc, call)?;
+    match (write_whole(alloc, &mut files, "a", bytes.as_bytes()), want) {
+        (Ok(()), Ok(held)) => {
+            expect_bytes(rt, &files, "a", held);
+            expect_read(rt, alloc, &mut files, "a", 9, Err(ReadFault::Failed));
+        }
+        (Err(FileFault::Failed), Err(held)) => expect_bytes(rt, &files, "a", held),
+        _ => assert!(rt; false, "at call {call}"),
+    }
+    Ok(())
+}
+
+#[test]
+fn a_file_is_written_in_two_calls(rt: HostRuntime) -> Result<(), Fail> {
+    let alloc = rt.alloc();
+    expect_write(&rt, alloc, 0, "new!", Err("attest"))?;
+    expect_write(&rt, alloc, 1, "new!", Err("ne"))?;
+    expect_write(&rt, alloc, 2, "new!", Ok("new!"))?;
+    expect_write(&rt, alloc, 0, "", Err("attest"))?;
+    expect_write(&rt, alloc, 1, "", Ok(""))?;
+    Ok(())
+}
+
+// The path of a new folder.
+fn new_folder(rt: &HostRuntime) -> Result<String, Fail> {
+    let alloc = rt.alloc();
+    let temporary = env::temp_dir(rt)?;
+    for number in 0..1000 {
+        let path = format!(in alloc; "{}/att_base_{number}", temporary.as_str())?;
+        if fs::create_dir(rt, path.as_str()).is_ok() {
+            return Ok(path);
+        }
+    }
+    Err(Fail::from("no new folder"))
+}
+
+#[test]
+fn real_files_are_read_and_written(rt: HostRuntime) -> Result<(), Fail> {
+    let alloc = rt.alloc();
+    let folder = new_folder(&rt)?;
+    let path = format!(in alloc; "{folder}/file")?;
+    let beyond = format!(in alloc; "{path}/file")?;
+    let (folder, name, nowhere) = (folder.as_str(), path.as_str(), beyond.as_str());
+    assert!(rt; !folder.is_empty() && folder.len() <= 255);
+    assert!(rt; !name.is_empty() && name.len() <= 255);
+    assert!(rt; !nowhere.is_empty() && nowhere.len() <= 255);
+    let mut files = StdFiles::new(&rt);
+    expect_read(&rt, alloc, &mut files, name, 9, Err(ReadFault::Missing));
+    write_whole(alloc, &mut files, name, b"a longer text")?;
+    write_whole(alloc, &mut files, name, &TEXT)?;
+    expect_read(&rt, alloc, &mut files, name, u64::MAX, Ok("attest"));
+    expect_read(&rt, alloc, &mut files, name, 6, Ok("attest"));
+    expect_read(&rt, alloc, &mut files, name, 5, Err(ReadFault::TooLong));
+    files.append(alloc, name, b"!")?;
+    expect_read(&rt, alloc, &mut files, name, 7, Ok("attest!"));
+    files.clear(alloc, name)?;
+    expect_read(&rt, alloc, &mut files, name, 0, Ok(""));
+    // A folder is no file, and a file is no folder.
+    expect_read(&rt, alloc, &mut files, folder, 9, Err(ReadFault::Failed));
+    expect_read(&rt, alloc, &mut files, nowhere, 9, Err(ReadFault::Failed));
+    assert_eq!(rt; files.clear(alloc, folder), Err(FileFault::Failed));
+    assert_eq!(rt; files.append(alloc, nowhere, b"!"), Err(FileFault::Failed));
+    fs::remove_dir_all(&rt, folder)?;
     Ok(())
 }
