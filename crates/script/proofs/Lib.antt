@@ -10,3 +10,4 @@ pub mod Released
 pub mod CoreSteps
 pub mod Midways
 pub mod Runs
+pub mod WentOn

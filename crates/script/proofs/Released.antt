@@ -11,7 +11,7 @@ use Rattle.history.specs.Legal.{in_order}
 use Rattle.history.specs.Instants.{EndsAt, ReleasesAt}
 use Rattle.script.specs.declared.steps.Step.{Step}
 use Rattle.script.specs.declared.steps.Step.TheVariants.{Load, Store, Start, Copy, End, Tick, Release}
-use Rattle.script.specs.Tags.{note_tag}
+use Rattle.report.specs.Tags.{note_tag}
 use Rattle.script.specs.Steps.{entry_of, is_full, waits, entries_after}
 use Rattle.script.specs.Printed.{before_end, nonce_with, note_of_pass, tag_at_end, tag_at_release}
 use Rattle.script.specs.Programs.{Program}
@@ -19,6 +19,7 @@ use Rattle.script.specs.Attested.{IsScript, IsReleased, NotesEnd, history_of, no
 use Rattle.script.proofs.Legals.{outcomes}
 use Rattle.script.proofs.Parts.{stands, entries_next, entries_waiting}
 use Rattle.script.proofs.Shown.{waiting_nonce, shown}
+use Rattle.script.proofs.WentOn.{WentOn, went_on}
 use Rattle.script.proofs.Tagged.{EndsThere, ends_here}
 
 -- a Release releases the pass that is there
@@ -30,16 +31,6 @@ record SameStart (earlier pass : Pass) : Type 0 where
   discipline : earlier.discipline ≡ pass.discipline
   counter : earlier.counter ≡ pass.counter
   opened : earlier.opened ≡ pass.opened
-
--- a pass went on with an entry
-record WentOn (entry : Entry) (before : Option Pass) (pass : Pass) : Type 0 where
-  earlier : Pass
-  was : before ≡ Some earlier
-  now : longer entry earlier ≡ pass
-
-went_on : (entry : Entry) (before : Option Pass) (pass : Pass) → option_map (longer entry) before ≡ Some pass → WentOn entry before pass
-went_on entry None pass h = absurd cc
-went_on entry (Some earlier) pass h = record { earlier = earlier; was = refl; now = cc }
 
 -- it has the Start of the pass that goes on
 start_kept : (entry : Entry) (before : Option Pass) (middle pass : Pass) (g : WentOn entry before middle) → SameStart middle pass → SameStart g.earlier pass

@@ -13,7 +13,8 @@ use Rattle.history.specs.Copied.{copied_bytes}
 use Rattle.history.specs.Instants.{EndsAt}
 use Rattle.history.specs.Sliding.{CopiedIsMemory}
 use Rattle.script.specs.declared.steps.Step.TheVariants.{End}
-use Rattle.script.specs.Tags.{report_tag}
+use Rattle.chronicle.specs.Worlds.{shape_of}
+use Rattle.report.specs.Tags.{report_tag}
 use Rattle.script.specs.Steps.{entry_of, entries_after}
 use Rattle.script.specs.Printed.{tag_of_pass}
 use Rattle.script.specs.Programs.{Program}
@@ -65,7 +66,7 @@ tags_instants copied none program script nonce past entry more pass whole is las
     copied w script.setting history (script_legal program script) pass.discipline pass.counter (start_of pass) (length past + 1) release ends releases place instant
     ∙ copied_here none w history past entry more whole is in
     ap (tag_of_pass w program.key nonce past) last
-    ∙ ap (λ bytes. report_tag program.key (asked_of pass nonce) w bytes (start_of pass) (length past + 1)) (sym same)
+    ∙ ap (λ bytes. report_tag program.key (asked_of pass nonce) (shape_of w) bytes (start_of pass) (length past + 1)) (sym same)
 
 -- all of it at one End
 module _ (copied : CopiedIsMemory) (ends : EndsThere) (none : EndCopiesNone) where

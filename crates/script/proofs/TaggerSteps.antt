@@ -13,12 +13,13 @@ use Rattle.history.specs.Pass.{Pass, longer, pass_step, pass_after, start_of, is
 use Rattle.history.specs.Copied.{copied_step, copied_bytes}
 use Rattle.history.specs.Worked.{measurer}
 use Rattle.hmac256.specs.States.{StandsFor}
-use Rattle.std.specs.Int.{to_be_bytes, w64}
 use Rattle.hmac256.specs.Hmac.{hmac}
-use Rattle.script.specs.Tags.{head_bytes, tail_bytes, report_tag, note_head_bytes, note_tag}
+use Rattle.chronicle.specs.Worlds.{shape_of}
+use Rattle.report.specs.Tags.{head_bytes, tail_bytes, report_tag, note_head_bytes, note_tag}
 use Rattle.script.specs.Printed.{before_end, tag_at_end, tag_at_release}
 use Rattle.script.specs.Attested.{asked_of}
 use Rattle.script.specs.Tagging.{IsTagging, IsHashing}
+use Rattle.script.proofs.WentOn.{went_on}
 use Rattle.script.specs.declared.tagger.Tagger.{Tagger}
 
 no_pass : {A : Type 0} (pass : Pass) → None ≡ Some pass → A
@@ -31,7 +32,7 @@ tagging-none w key nonce t is = record { key_is = is; pass = λ pass h. no_pass 
 -- a pass begins
 pub tagging-start : (w : Setting) (key nonce : List ℕ) (past : List Entry) (discipline : Discipline) (counter : ℕ) (t : Tagger)
     → t.key.items ≡ key → t.counter ≡ counter → t.start ≡ length past + 1
-    → StandsFor t.hmac key (head_bytes (record { discipline = discipline; counter = counter; nonce = nonce }) w)
+    → StandsFor t.hmac key (head_bytes (record { discipline = discipline; counter = counter; nonce = nonce }) (shape_of w))
     → IsTagging w key nonce (measurer (act.Start discipline counter) ∷ past) t
 tagging-start w key nonce past discipline counter t key_is counter_is start_is stands = record {
   key_is = key_is;
@@ -47,11 +48,6 @@ tagging-start w key nonce past discipline counter t key_is counter_is start_is s
       subst (λ (p : Pass). IsHashing w key nonce (measurer (act.Start discipline counter) ∷ past) p t) (same_Some first pass h) begun;
 }
 
--- the pass before an entry that goes on with it
-went_on : (before : Option Pass) (entry : Entry) (pass : Pass) → option_map (longer entry) before ≡ Some pass → (old : Pass) × (before ≡ Some old) × (longer entry old ≡ pass)
-went_on None entry pass h = cc
-went_on (Some old) entry pass h = (old, refl, same_Some (longer entry old) pass h)
-
 -- a block is copied
 pub tagging-copy : (w : Setting) (key nonce : List ℕ) (past : List Entry) (block : ℕ) (old new : Tagger) → IsTagging w key nonce past old
     → new.key.items ≡ old.key.items → new.counter ≡ old.counter → new.start ≡ old.start → new.end ≡ old.end → new.tag ≡ old.tag
@@ -60,16 +56,16 @@ pub tagging-copy : (w : Setting) (key nonce : List ℕ) (past : List Entry) (blo
 tagging-copy w key nonce past block old new tagging key_is counter_is start_is end_is tag_is update = record {
   key_is = key_is ∙ tagging.key_is;
   pass = λ pass h.
-      let was = went_on (pass_after past) (measurer (act.Copy block)) pass h in
-      let hashing = tagging.pass was.0 was.1 in
-      let more : IsHashing w key nonce (measurer (act.Copy block) ∷ past) (longer (measurer (act.Copy block)) was.0) new = record {
+      let was = went_on (measurer (act.Copy block)) (pass_after past) pass h in
+      let hashing = tagging.pass was.earlier was.was in
+      let more : IsHashing w key nonce (measurer (act.Copy block) ∷ past) (longer (measurer (act.Copy block)) was.earlier) new = record {
         counter = counter_is ∙ hashing.counter;
         start = start_is ∙ hashing.start;
-        hashed = λ e. subst (λ (text : List ℕ). StandsFor new.hmac key text) (append_assoc (head_bytes (asked_of was.0 nonce) w) (copied_bytes w past) (block_bytes w (memory_after w past) block)) (update key (head_bytes (asked_of was.0 nonce) w ++ copied_bytes w past) (hashing.hashed e));
+        hashed = λ e. subst (λ (text : List ℕ). StandsFor new.hmac key text) (append_assoc (head_bytes (asked_of was.earlier nonce) (shape_of w)) (copied_bytes w past) (block_bytes w (memory_after w past) block)) (update key (head_bytes (asked_of was.earlier nonce) (shape_of w) ++ copied_bytes w past) (hashing.hashed e));
         end = λ e. end_is ∙ hashing.end e;
         tag = λ e. tag_is ∙ hashing.tag e;
       } in
-      subst (λ (p : Pass). IsHashing w key nonce (measurer (act.Copy block) ∷ past) p new) was.2 more;
+      subst (λ (p : Pass). IsHashing w key nonce (measurer (act.Copy block) ∷ past) p new) was.now more;
 }
 
 -- the pass ends
@@ -79,26 +75,25 @@ pub tagging-end : (w : Setting) (key nonce : List ℕ) (past : List Entry) (old 
 tagging-end w key nonce past old new tagging key_is counter_is start_is end_is tag_is = record {
   key_is = key_is ∙ tagging.key_is;
   pass = λ pass h.
-      let was = went_on (pass_after past) (measurer act.End) pass h in
-      let hashing = tagging.pass was.0 was.1 in
-      let more : IsHashing w key nonce (measurer act.End ∷ past) (longer (measurer act.End) was.0) new = record {
+      let was = went_on (measurer act.End) (pass_after past) pass h in
+      let hashing = tagging.pass was.earlier was.was in
+      let more : IsHashing w key nonce (measurer act.End ∷ past) (longer (measurer act.End) was.earlier) new = record {
         counter = counter_is ∙ hashing.counter;
         start = start_is ∙ hashing.start;
         hashed = λ e. absurd (false≢true (sym e));
         end = λ e. end_is;
         tag = λ e. tag_is;
       } in
-      subst (λ (p : Pass). IsHashing w key nonce (measurer act.End ∷ past) p new) was.2 more;
+      subst (λ (p : Pass). IsHashing w key nonce (measurer act.End ∷ past) p new) was.now more;
 }
 
 -- the tag of a report, as it is digested
 pub tag_digested : (w : Setting) (key nonce : List ℕ) (past : List Entry) (pass : Pass) (start place : ℕ) (tag : List ℕ)
     → pass_after past ≡ Some pass → start ≡ start_of pass → place ≡ length past + 1
-    → tag ≡ hmac key (((head_bytes (asked_of pass nonce) w ++ copied_bytes w past) ++ to_be_bytes w64 start) ++ to_be_bytes w64 place)
+    → tag ≡ hmac key ((head_bytes (asked_of pass nonce) (shape_of w) ++ copied_bytes w past) ++ tail_bytes start place)
     → tag ≡ tag_at_end w key nonce past
-unfolding report_tag tail_bytes
-tag_digested w key nonce past pass start place tag is start_is place_is digested =
-    rw (is, ← start_is, ← place_is) (digested ∙ ap (hmac key) (append_assoc (head_bytes (asked_of pass nonce) w ++ copied_bytes w past) (to_be_bytes w64 start) (to_be_bytes w64 place)))
+unfolding report_tag
+tag_digested w key nonce past pass start place tag is start_is place_is digested = rw (is, ← start_is, ← place_is) digested
 
 -- the tag of a note, as it is digested
 pub note_digested : (w : Setting) (key nonce : List ℕ) (past : List Entry) (pass : Pass) (counter start end place : ℕ) (report tag : List ℕ)
@@ -153,16 +148,16 @@ pub tagging-plain : (w : Setting) (key nonce : List ℕ) (past : List Entry) (en
 tagging-plain w key nonce past entry t plain tagging = record {
   key_is = tagging.key_is;
   pass = λ pass h.
-      let was = went_on (pass_after past) entry pass (sym (plain_step entry.act plain entry past (pass_after past)) ∙ h) in
-      let hashing = tagging.pass was.0 was.1 in
-      let same_end : is_ended (longer entry was.0) ≡ is_ended was.0 = rw (plain_end entry.act plain) refl in
+      let was = went_on entry (pass_after past) pass (sym (plain_step entry.act plain entry past (pass_after past)) ∙ h) in
+      let hashing = tagging.pass was.earlier was.was in
+      let same_end : is_ended (longer entry was.earlier) ≡ is_ended was.earlier = rw (plain_end entry.act plain) refl in
       let same_before : before_end (entry ∷ past) ≡ before_end past = rw (plain_end entry.act plain) refl in
-      let more : IsHashing w key nonce (entry ∷ past) (longer entry was.0) t = record {
+      let more : IsHashing w key nonce (entry ∷ past) (longer entry was.earlier) t = record {
         counter = hashing.counter;
         start = hashing.start;
         hashed = λ e. rw (plain_copied w entry.act plain past (copied_bytes w past)) (hashing.hashed (sym same_end ∙ e));
         end = λ e. rw same_before (hashing.end (sym same_end ∙ e));
         tag = λ e. rw same_before (hashing.tag (sym same_end ∙ e));
       } in
-      subst (λ (p : Pass). IsHashing w key nonce (entry ∷ past) p t) was.2 more;
+      subst (λ (p : Pass). IsHashing w key nonce (entry ∷ past) p t) was.now more;
 }

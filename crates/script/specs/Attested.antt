@@ -8,7 +8,9 @@ use Rattle.history.specs.Legal.{IsLegal}
 use Rattle.history.specs.Instants.{IsInstant, EndsAt, ReleasesAt}
 use Rattle.script.specs.declared.steps.Step.{Step}
 use Rattle.script.specs.declared.steps.Step.TheVariants.{Store, End, Release}
-use Rattle.script.specs.Tags.{Asked, report_tag, note_tag}
+use Rattle.challenge.specs.Challenges.{Asked}
+use Rattle.chronicle.specs.Worlds.{shape_of}
+use Rattle.report.specs.Tags.{report_tag, note_tag}
 use Rattle.script.specs.Steps.{entries_after, is_full}
 use Rattle.script.specs.Measuring.{measured_with, may_come}
 use Rattle.script.specs.Printed.{nonce_with, tag_at_end, tag_at_release, step_printed, printed}
@@ -55,7 +57,7 @@ TagsInstants program nonce past pass =
     (place release : ℕ) → (IsTrue (is_extended pass.discipline) → ReleasesAt (history_of program) pass.discipline pass.counter (start_of pass) release)
     → IsInstant pass.discipline (start_of pass) (length past + 1) release place
     → tag_at_end program.setting program.key nonce past
-    ≡ report_tag program.key (asked_of pass nonce) program.setting (attested_bytes program.setting (memory_at program.setting (history_of program) place)) (start_of pass) (length past + 1)
+    ≡ report_tag program.key (asked_of pass nonce) (shape_of program.setting) (attested_bytes program.setting (memory_at program.setting (history_of program) place)) (start_of pass) (length past + 1)
 
 -- The history is legal. Wherever an End finds room, its line is printed, there is its pass, which ends at that
 -- place of the history, and its tag is that of the attested memory at each of the pass's instants.

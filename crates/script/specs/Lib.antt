@@ -1,4 +1,3 @@
-pub mod Tags
 pub mod Steps
 pub mod Programs
 pub mod Measuring

@@ -12,7 +12,8 @@ use Rattle.history.specs.Pass.{Pass, pass_after, start_of, is_end}
 use Rattle.history.specs.Copied.{copied_bytes}
 use Rattle.script.specs.declared.steps.Step.{Step}
 use Rattle.script.specs.declared.steps.Step.TheVariants.{Load, Store, Start, Copy, End, Tick, Release}
-use Rattle.script.specs.Tags.{report_tag, note_tag}
+use Rattle.chronicle.specs.Worlds.{shape_of}
+use Rattle.report.specs.Tags.{report_tag, note_tag}
 use Rattle.script.specs.Steps.{next_block, entry_of, is_full, waits}
 use Rattle.script.specs.Programs.{Program}
 
@@ -29,7 +30,7 @@ value_digits Word value = encode_lower (to_be_bytes w32 value)
 -- each block as it was at its own Copy. The nonce is that of the pass's Start.
 abbrev pub tag_of_pass : Setting → List ℕ → List ℕ → List Entry → Option Pass → List ℕ
 tag_of_pass w key nonce past None = []
-tag_of_pass w key nonce past (Some pass) = report_tag key (record { discipline = pass.discipline; counter = pass.counter; nonce = nonce }) w (copied_bytes w past) (start_of pass) (length past + 1)
+tag_of_pass w key nonce past (Some pass) = report_tag key (record { discipline = pass.discipline; counter = pass.counter; nonce = nonce }) (shape_of w) (copied_bytes w past) (start_of pass) (length past + 1)
 
 abbrev pub tag_at_end : Setting → List ℕ → List ℕ → List Entry → List ℕ
 tag_at_end w key nonce past = tag_of_pass w key nonce past (pass_after past)

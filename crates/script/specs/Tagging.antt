@@ -5,7 +5,8 @@ use Rattle.history.specs.Layout.{Setting}
 use Rattle.history.specs.Pass.{Pass, pass_after, start_of, is_ended}
 use Rattle.history.specs.Copied.{copied_bytes}
 use Rattle.hmac256.specs.States.{StandsFor}
-use Rattle.script.specs.Tags.{head_bytes}
+use Rattle.chronicle.specs.Worlds.{shape_of}
+use Rattle.report.specs.Tags.{head_bytes}
 use Rattle.script.specs.Printed.{before_end, tag_at_end}
 use Rattle.script.specs.Attested.{asked_of}
 use Rattle.script.specs.declared.tagger.Tagger.{Tagger}
@@ -14,7 +15,7 @@ use Rattle.script.specs.declared.tagger.Tagger.{Tagger}
 pub record IsHashing (w : Setting) (key nonce : List ℕ) (past : List Entry) (pass : Pass) (t : Tagger) : Type 0 where
   pub counter : t.counter ≡ pass.counter
   pub start : t.start ≡ start_of pass
-  pub hashed : is_ended pass ≡ false → StandsFor t.hmac key (head_bytes (asked_of pass nonce) w ++ copied_bytes w past)
+  pub hashed : is_ended pass ≡ false → StandsFor t.hmac key (head_bytes (asked_of pass nonce) (shape_of w) ++ copied_bytes w past)
   pub end : is_ended pass ≡ true → t.end ≡ length (before_end past) + 1
   pub tag : is_ended pass ≡ true → t.tag ≡ tag_at_end w key nonce (before_end past)
 

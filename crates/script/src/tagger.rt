@@ -1,15 +1,10 @@
 //! The tags of the last pass, digested as its blocks are copied.
 
-ghost use Rattle.std.specs.Prelude.{◌≡◌, ℕ, ◌+◌, List, ◌∷◌, ◌++◌, length, Some};
-ghost use Rattle.std.specs.Int.{to_be_bytes, w32, w64};
-ghost use Rattle.chronicle.specs.Worlds.{shape_of};
-ghost use Rattle.history.specs.Layout.{Setting};
-ghost use Rattle.hmac256.specs.States.{StandsFor};
-ghost use Rattle.script.specs.Tags.{head_bytes};
-
+use challenge::Challenge;
 use chronicle::Shape;
 use history::Discipline;
 use hmac256::Hmac;
+use report::{head, note_head, tail};
 use std::mem;
 
 /// What is kept of the last pass.
@@ -21,43 +16,6 @@ pub struct Tagger {
     start: u64,
     end: u64,
     tag: [u8; 32],
-}
-
-// The digest with four bytes more, the highest first.
-fn take_u32(hmac: &mut Hmac, number: u32)
-    ensures { (key text : List ℕ) → StandsFor hmac.old key text → StandsFor hmac.new key (text ++ to_be_bytes w32 number) }
-{
-    hmac.update(&number.to_be_bytes());
-}
-
-// The digest with eight bytes more, the highest first.
-fn take_u64(hmac: &mut Hmac, number: u64)
-    ensures { (key text : List ℕ) → StandsFor hmac.old key text → StandsFor hmac.new key (text ++ to_be_bytes w64 number) }
-{
-    hmac.update(&number.to_be_bytes());
-}
-
-// A digest that has taken in the head of a report.
-fn head_taken(
-    key: &[u8],
-    discipline: Discipline,
-    counter: u64,
-    nonce: &[u8; 16],
-    shape: &Shape,
-) -> Hmac
-    ensures { (w : Setting) → shape.now ≡ shape_of w
-        → StandsFor result key.now (head_bytes (record { discipline = discipline; counter = counter; nonce = nonce.now }) w) }
-{
-    let mut hmac = Hmac::new(key);
-    hmac.update(b"TMR1");
-    hmac.update(&[discipline.code(), 0, 0, 0]);
-    take_u64(&mut hmac, counter);
-    hmac.update(nonce);
-    take_u32(&mut hmac, shape.base);
-    take_u32(&mut hmac, shape.size);
-    take_u32(&mut hmac, shape.first);
-    take_u32(&mut hmac, shape.attested);
-    hmac
 }
 
 impl Tagger {
@@ -99,7 +57,17 @@ impl Tagger {
             → IsTagging w key old past self.old
             → IsTagging w key nonce.now (measurer (act.Start discipline counter) ∷ past) self.new }
     {
-        self.hmac = head_taken(&self.key, discipline, counter, nonce, shape);
+        let nonce = *nonce;
+        let challenge = Challenge {
+            discipline,
+            lead: 0,
+            hold: 0,
+            counter,
+            nonce,
+        };
+        let mut hmac = Hmac::new(&self.key);
+        hmac.update(&head(&challenge, shape));
+        self.hmac = hmac;
         self.counter = counter;
         self.start = place;
     }
@@ -123,8 +91,7 @@ impl Tagger {
             → IsTagging w key nonce (measurer act.End ∷ past) self.new }
     {
         let mut hmac = mem::replace(&mut self.hmac, Hmac::new(&self.key));
-        take_u64(&mut hmac, self.start);
-        take_u64(&mut hmac, place);
+        hmac.update(&tail(self.start, place));
         self.end = place;
         self.tag = hmac.finish();
         self.tag
@@ -137,12 +104,7 @@ impl Tagger {
             → result ≡ tag_at_release w key nonce past }
     {
         let mut hmac = Hmac::new(&self.key);
-        hmac.update(b"TMN1");
-        hmac.update(&[0; 4]);
-        take_u64(&mut hmac, self.counter);
-        take_u64(&mut hmac, self.start);
-        take_u64(&mut hmac, self.end);
-        take_u64(&mut hmac, place);
+        hmac.update(&note_head(self.counter, self.start, self.end, place));
         hmac.update(&self.tag);
         hmac.finish()
     }
