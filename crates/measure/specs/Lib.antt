@@ -1,0 +1,4 @@
+pub mod Program
+pub mod Measured
+pub mod Passing
+pub mod Machine
