@@ -1,0 +1,4 @@
+pub mod Histories
+pub mod Seats
+pub mod Keeps
+pub mod Shares
