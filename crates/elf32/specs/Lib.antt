@@ -1,0 +1,5 @@
+pub mod Fields
+pub mod Files
+pub mod Sound
+pub mod Worked
+pub mod Written
