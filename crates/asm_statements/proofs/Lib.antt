@@ -1,0 +1,5 @@
+pub mod Ranges
+pub mod Boths
+pub mod Faults
+pub mod Counts
+pub mod Commas

@@ -1,0 +1,10 @@
+pub mod Lines
+pub mod Cells
+pub mod Pieces
+pub mod Plain
+pub mod Numerals
+pub mod ReadBack
+pub mod Hexes
+pub mod ShownOrders
+pub mod ShownLines
+pub mod ShownAgain

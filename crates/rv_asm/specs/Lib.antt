@@ -1,0 +1,7 @@
+pub mod Gives
+pub mod Labels
+pub mod First
+pub mod Coded
+pub mod Second
+pub mod Assembled
+pub mod Shown
