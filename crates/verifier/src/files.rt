@@ -1,0 +1,79 @@
+//! Verifier files.
+
+ghost use Rattle.std.specs.Prelude.{◌≡◌};
+ghost use Rattle.file_rules.specs.Rules.{Reads};
+ghost use Rattle.verifier.specs.Files.{plan_of, verifier_file};
+
+use att_base::DeviceFault;
+use block_memory::Geometry;
+use file_rules::{Common, name_at, names_at, read_common, read_document};
+use listed::{Items, Text};
+use std::alloc::Global;
+
+/// The most images of a verifier.
+const MOST_IMAGES: usize = 64;
+
+/// What a verifier file says.
+#[derive(Debug, Drop)]
+pub struct VerifierPlan {
+    /// Where memory lies.
+    pub geometry: Geometry,
+    /// The first attested block, from 0.
+    pub first: u32,
+    /// How many blocks are attested, at least 1.
+    pub attested: u32,
+    /// The name of the key's file.
+    pub key: Text,
+    /// The greatest counter that was accepted so far.
+    pub last: u64,
+    /// The name of the challenge's file.
+    pub challenge: Text,
+    /// The names of the known images' files, 1 to 64.
+    pub images: Items<Text>,
+}
+
+// The plan of what both kinds of file say and the rest.
+fn plan_of(common: Common, challenge: Text, images: Items<Text>) -> VerifierPlan
+    ensures { result ≡ plan_of common challenge images }
+{
+    let Common { region, key, last } = common;
+    VerifierPlan {
+        geometry: region.geometry,
+        first: region.first,
+        attested: region.attested,
+        key,
+        last,
+        challenge,
+        images,
+    }
+}
+
+/// Reads a verifier file, a TOML document. Keys that no rule names are passed over. A refusal gives the number
+/// of the first rule that fails: 1 to 8 are those of `file_rules`, 9 is `challenge`, a file name, and 10 is
+/// `images`, an array of 1 to 64 file names.
+#[tactic(auto, unfolding(crate::specs::Files::verifier_file))]
+pub fn read_verifier(alloc: Global, bytes: &[u8]) -> Result<VerifierPlan, DeviceFault>
+    ensures { Reads (verifier_file bytes.now) result }
+{
+    let table = match read_document(alloc, bytes) {
+        Ok(table) => table,
+        Err(fault) => return Err(fault),
+    };
+    let common = match read_common(alloc, &table) {
+        Ok(common) => common,
+        Err(fault) => return Err(fault),
+    };
+    let challenge = match name_at(&table, "challenge") {
+        Some(name) => name,
+        None => return Err(DeviceFault::Rule(9)),
+    };
+    let images = match names_at(alloc, &table, "images", 1, MOST_IMAGES) {
+        Ok(Some(images)) => images,
+        Ok(None) => return Err(DeviceFault::Rule(10)),
+        Err(_) => return Err(DeviceFault::Memory),
+    };
+    let Ok(challenge) = Text::from_str(alloc, challenge) else {
+        return Err(DeviceFault::Memory);
+    };
+    Ok(plan_of(common, challenge, images))
+}
