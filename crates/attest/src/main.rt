@@ -1,7 +1,7 @@
 //! The program `attest`: the command line and the standard streams, handed to the proved call of the same name.
 #![tactic(auto)]
 
-use att_base::{StdErr, StdSink, StdSource, Words};
+use att_base::{StdErr, StdFiles, StdSink, StdSource, Words};
 use attest_top::{Status, attest};
 use std::env;
 use std::io::ErrorKind;
@@ -31,6 +31,7 @@ fn main(rt: HostRuntime) -> ExitCode {
         Ok(words) => attest(
             rt.alloc(),
             &words,
+            &mut StdFiles::new(&rt),
             &mut StdSource::new(rt.stdin()),
             &mut StdSink::new(rt.stdout()),
             &mut StdErr::new(rt.stderr()),

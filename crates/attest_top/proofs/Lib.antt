@@ -1,1 +1,3 @@
 pub mod Finishes
+pub mod Readings
+pub mod Tops

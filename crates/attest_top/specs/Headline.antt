@@ -3,10 +3,9 @@ use Rattle.std.specs.Prelude.{◌≡◌, ℕ, List, Option, Some, Ok}
 use Rattle.script.specs.Programs.{Program}
 use Rattle.script.specs.Grammar.{program_of}
 use Rattle.script.specs.Attested.{IsAttested, IsReleased}
-use Rattle.attest_top.specs.declared.command.Command.{Command}
-use Rattle.attest_top.specs.declared.command.Command.TheVariants.{Script}
 use Rattle.attest_top.specs.declared.status.Status.{Status}
 use Rattle.attest_top.specs.declared.status.Status.TheVariants.{Good, Full}
+use Rattle.attest_top.specs.Lines.{Form, script}
 
 -- the text is that of a script with these promises
 abbrev pub IsAttestedText : List ℕ → Type 0
@@ -15,7 +14,7 @@ IsAttestedText text = (program : Program) × (program_of text ≡ Ok program) ×
 -- Where a script was run and all was written, the text was that of a script, its history is legal, each tag
 -- that an End prints is that of the attested memory at every instant of its pass, and each that a Release
 -- prints is that of a note on its pass.
-abbrev pub HoldsOfScript : Option Command → Status → Option (List ℕ) → Type 0
-HoldsOfScript (Some Script) Good (Some text) = IsAttestedText text
-HoldsOfScript (Some Script) Full (Some text) = IsAttestedText text
+abbrev pub HoldsOfScript : Option Form → Status → Option (List ℕ) → Type 0
+HoldsOfScript (Some script) Good (Some text) = IsAttestedText text
+HoldsOfScript (Some script) Full (Some text) = IsAttestedText text
 HoldsOfScript _ _ _ = Unit {0}

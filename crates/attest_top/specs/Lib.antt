@@ -6,3 +6,4 @@ pub mod Endings
 pub mod Headline
 pub mod Makes
 pub mod Says
+pub mod Tops

@@ -1,17 +1,19 @@
 //! What has been prepared is written, and the status is told.
 
-ghost use Rattle.std.specs.Prelude.{◌≡◌, ◌≤◌, ◌⊎◌, ℕ, List, IsErr, IsErrOf};
+ghost use Rattle.std.specs.Prelude.{◌≡◌, ◌≤◌, ◌⊎◌, ℕ, List, [], All, Option, Ok, IsErr, IsErrOf, IfOk, OnOk, OnErr};
 ghost use Rattle.att_base.specs.Faults.{Rose};
+ghost use Rattle.att_base.specs.Files.{Held, IsName};
 ghost use Rattle.attest_top.specs.declared.status.Status.{Status as AStatus};
 ghost use Rattle.attest_top.specs.Plans.{Plan};
-ghost use Rattle.attest_top.specs.Answers.{Answers, Sight};
+ghost use Rattle.attest_top.specs.Answers.{Answers, Sight, after_files, FilesFront};
 ghost use Rattle.attest_top.specs.Endings.{CanEnd, IsNotDone, status_of};
-ghost use Rattle.attest_top.specs.Makes.{Prepares};
+ghost use Rattle.attest_top.specs.Makes.{Prepares, LeavesFiles, IsFailed};
 ghost use Rattle.attest_top.specs.Says.{Says, stop_line, stop_status};
 
 use crate::Status;
 use crate::output::{Ending, Output, Stop};
-use att_base::{Sink, put_all};
+use att_base::{FileFault, Files, NamedFile, Sink, put_all, write_whole};
+use std::alloc::Global;
 
 const USAGE_LINE: &[u8] = b"attest: usage\n";
 
@@ -40,10 +42,32 @@ fn status_of(ending: Ending) -> Status
     }
 }
 
-// Writes all that was prepared, and says the line of its ending.
-fn write<O: Sink, E: Sink>(output: &Output, out: &mut O, err: &mut E) -> Status
-    ensures answer { (plan : Plan) → Prepares (Ok output.now) plan
-        → Answers result plan (record { out = O.held out.old; err = E.held err.old }) (record { out = O.held out.new; err = E.held err.new }) }
+// Writes the files in order, each whole before the next.
+fn write_files<F: Files>(
+    alloc: Global,
+    files: &mut F,
+    written: &[NamedFile],
+) -> Result<(), FileFault>
+    requires { All (λ file. IsName file.name) written.now }
+    ensures ok { OnOk result (F.held files.new ≡ after_files written.now (F.held files.old)) }
+    ensures err { OnErr result (FilesFront written.now (F.held files.old) (F.held files.new)) }
+    ensures failed { IsErrOf result FileFault.Failed → Rose (F.faults files.old) (F.faults files.new) }
+    ensures none { written.now ≡ [] → (F.held files.new ≡ F.held files.old) × (F.faults files.new ≡ F.faults files.old) }
+    ensures later { F.faults files.old ≤ F.faults files.new }
+{
+    for file in written {
+        match write_whole(alloc, files, file.name(), file.bytes()) {
+            Ok(()) => {}
+            Err(fault) => return Err(fault),
+        }
+    }
+    Ok(())
+}
+
+// Writes standard output, and says the line of the ending.
+fn write_out<O: Sink, E: Sink>(output: &Output, out: &mut O, err: &mut E) -> Status
+    ensures answer { (plan : Plan) (before now : Option Held) → Prepares (Ok output.now) plan → now ≡ after_files output.now.files.items before
+        → Answers result plan (record { files = before; out = O.held out.old; err = E.held err.old }) (record { files = now; out = O.held out.new; err = E.held err.new }) }
     ensures fault { result ≡ AStatus.OutsideFault → Rose (O.faults out.old) (O.faults out.new) ⊎ Rose (E.faults err.old) (E.faults err.new) }
     ensures ends { (result ≡ AStatus.OutsideFault) ⊎ (result ≡ status_of output.now.ending) }
     ensures out_later { O.faults out.old ≤ O.faults out.new }
@@ -55,6 +79,31 @@ fn write<O: Sink, E: Sink>(output: &Output, out: &mut O, err: &mut E) -> Status
     say(err, output.line.as_bytes(), status_of(output.ending))
 }
 
+// Writes all that was prepared: the files, then standard output, then the line of its ending.
+fn write<F: Files, O: Sink, E: Sink>(
+    alloc: Global,
+    output: &Output,
+    files: &mut F,
+    out: &mut O,
+    err: &mut E,
+) -> Status
+    requires { All (λ file. IsName file.name) output.now.files.items }
+    ensures answer { (plan : Plan) → Prepares (Ok output.now) plan
+        → Answers result plan (record { files = F.held files.old; out = O.held out.old; err = E.held err.old }) (record { files = F.held files.new; out = O.held out.new; err = E.held err.new }) }
+    ensures fault { result ≡ AStatus.OutsideFault → Rose (F.faults files.old) (F.faults files.new) ⊎ Rose (O.faults out.old) (O.faults out.new) ⊎ Rose (E.faults err.old) (E.faults err.new) }
+    ensures ends { (result ≡ AStatus.OutsideFault) ⊎ (result ≡ AStatus.Memory) ⊎ (result ≡ status_of output.now.ending) }
+    ensures none { output.now.files.items ≡ [] → (F.held files.new ≡ F.held files.old) × (F.faults files.new ≡ F.faults files.old) }
+    ensures files_later { F.faults files.old ≤ F.faults files.new }
+    ensures out_later { O.faults out.old ≤ O.faults out.new }
+    ensures err_later { E.faults err.old ≤ E.faults err.new }
+{
+    match write_files(alloc, files, &output.files) {
+        Ok(()) => write_out(output, out, err),
+        Err(FileFault::Failed) => say(err, FAULT_LINE, Status::OutsideFault),
+        Err(FileFault::Memory) => say(err, MEMORY_LINE, Status::Memory),
+    }
+}
+
 // Says why nothing is written.
 #[tactic(auto, unfolding(crate::specs::Lines::usage_line, crate::specs::Lines::fault_line, crate::specs::Lines::memory_line))]
 fn say_stop<E: Sink>(stop: &Stop, err: &mut E) -> Status
@@ -63,24 +112,33 @@ fn say_stop<E: Sink>(stop: &Stop, err: &mut E) -> Status
 {
     match stop {
         Stop::Misused => say(err, USAGE_LINE, Status::Usage),
-        Stop::Fault => say(err, FAULT_LINE, Status::OutsideFault),
+        Stop::Absent | Stop::Fault => say(err, FAULT_LINE, Status::OutsideFault),
         Stop::Bad(line) => say(err, line.as_bytes(), Status::BadInput),
         Stop::Memory => say(err, MEMORY_LINE, Status::Memory),
     }
 }
 
 /// Writes what was prepared, or says why nothing is written, and gives the status.
-pub fn finish<O: Sink, E: Sink>(prepared: &Result<Output, Stop>, out: &mut O, err: &mut E) -> Status
+pub fn finish<F: Files, O: Sink, E: Sink>(
+    alloc: Global,
+    prepared: &Result<Output, Stop>,
+    files: &mut F,
+    out: &mut O,
+    err: &mut E,
+) -> Status
+    requires { IfOk prepared.now (λ output. All (λ file. IsName file.name) output.files.items) }
     ensures answer { (plan : Plan) → Prepares prepared.now plan
-        → Answers result plan (record { out = O.held out.old; err = E.held err.old }) (record { out = O.held out.new; err = E.held err.new }) }
-    ensures fault { result ≡ AStatus.OutsideFault → (IsErrOf prepared.now Stop.Fault) ⊎ Rose (O.faults out.old) (O.faults out.new) ⊎ Rose (E.faults err.old) (E.faults err.new) }
+        → Answers result plan (record { files = F.held files.old; out = O.held out.old; err = E.held err.old }) (record { files = F.held files.new; out = O.held out.new; err = E.held err.new }) }
+    ensures fault { result ≡ AStatus.OutsideFault → IsFailed prepared.now ⊎ Rose (F.faults files.old) (F.faults files.new) ⊎ Rose (O.faults out.old) (O.faults out.new) ⊎ Rose (E.faults err.old) (E.faults err.new) }
     ensures ends { (plan : Plan) → Prepares prepared.now plan → (result ≡ AStatus.OutsideFault) ⊎ CanEnd plan result }
     ensures wrote { IsErr prepared.now → IsNotDone result }
+    ensures left { LeavesFiles prepared.now → (F.held files.new ≡ F.held files.old) × (F.faults files.new ≡ F.faults files.old) }
+    ensures files_later { F.faults files.old ≤ F.faults files.new }
     ensures out_later { O.faults out.old ≤ O.faults out.new }
     ensures err_later { E.faults err.old ≤ E.faults err.new }
 {
     match prepared {
-        Ok(output) => write(output, out, err),
+        Ok(output) => write(alloc, output, files, out, err),
         Err(stop) => say_stop(stop, err),
     }
 }

@@ -1,5 +1,6 @@
 //! What a command has to write, before anything is written.
 
+use att_base::NamedFile;
 use std::alloc::{AllocError, AllocFailed};
 
 /// How a command that writes all it has to ends.
@@ -13,9 +14,11 @@ pub enum Ending {
     Full(u64),
 }
 
-/// What a command writes: to standard output, how it ends, and then the line of that ending to standard error.
+/// What a command writes: its files in order, then standard output; how it ends, and then the line of that ending to
+/// standard error.
 #[derive(Drop)]
 pub struct Output {
+    pub files: Vec<NamedFile>,
     pub out: Vec<u8>,
     pub ending: Ending,
     pub line: String,
@@ -26,9 +29,11 @@ pub struct Output {
 pub enum Stop {
     /// The words are in no form.
     Misused,
+    /// A file that is read isn't there.
+    Absent,
     /// A read failed.
     Fault,
-    /// The input is bad, as this line says.
+    /// What is read is bad, as this line says.
     Bad(String),
     /// There is no memory.
     Memory,

@@ -1,30 +1,24 @@
 //! What each command makes of what it reads. Nothing is written here.
 
-ghost use Rattle.std.specs.Prelude.{◌≡◌, ◌≤◌, ℕ, List, [], Some, IsErrOf, OnOk, IfOk, string_bytes};
+ghost use Rattle.std.specs.Prelude.{◌≡◌, ◌≤◌, ℕ, List, [], All, Some, IsErrOf, OnOk, IfOk, string_bytes};
+ghost use Rattle.std.specs.Option.{ForSome, option_map};
+ghost use Rattle.att_base.specs.Files.{Held, IsName};
 ghost use Rattle.att_base.specs.Faults.{Rose};
 ghost use Rattle.script.specs.Grammar.{program_of};
-ghost use Rattle.attest_top.specs.Lines.{long_line, script_line, ending_line};
-ghost use Rattle.attest_top.specs.Plans.{plan_of, script_told, script_plan, told, run_of};
-ghost use Rattle.attest_top.specs.Makes.{Makes, Prepares, IsRead};
+ghost use Rattle.attest_top.specs.Lines.{Form, script, script_line, ending_line};
+ghost use Rattle.attest_top.specs.Plans.{script_told, script_plan, run_of};
+ghost use Rattle.attest_top.specs.Endings.{IsReadBy, ReadFails};
+ghost use Rattle.attest_top.specs.Makes.{Makes, IsReady, IsPrepared, IsRead, IsNamed, IsFailed, NeedsNoFiles, LeavesFiles, form_of};
 ghost use Rattle.attest_top.specs.Headline.{IsAttestedText};
-ghost use Rattle.attest_top.specs.declared.command.Command.{Command as ACommand};
 ghost use Rattle.script.specs.Attested.{IsAttested, IsReleased};
 
-use crate::Command;
+use crate::assembly::prepare_asm;
+use crate::command::Command;
 use crate::output::{Ending, Output, Stop};
-use att_base::{ReadFault, Source, take_all};
+use crate::reading::{INPUT_LIMIT, too_long};
+use att_base::{Files, ReadFault, Source, take_all};
 use script::{Script, ScriptError, read_script, releases_tell, run, scripts_attest};
 use std::alloc::{AllocError, Global};
-
-/// The most bytes of an input: 4 MiB.
-const INPUT_LIMIT: u64 = 4_194_304;
-
-#[tactic(auto, unfolding(crate::specs::Lines::long_line))]
-fn long_line(alloc: Global) -> Result<String, AllocError>
-    ensures { IfOk result (λ line. string_bytes line ≡ long_line) }
-{
-    String::from_str(alloc, "attest: bad input - long 2\n")
-}
 
 #[tactic(auto, unfolding(crate::specs::Lines::script_line))]
 fn script_line(alloc: Global, number: u64) -> Result<String, AllocError>
@@ -45,6 +39,7 @@ fn ending_line(alloc: Global, ending: Ending) -> Result<String, AllocError>
 
 fn run_output(alloc: Global, script: Script) -> Result<Output, Stop>
     ensures makes { Makes result (Ok (run_of script)) }
+    ensures no_files { LeavesFiles result }
     ensures attested { OnOk result (IsAttested script × IsReleased script) }
 {
     scripts_attest();
@@ -58,6 +53,7 @@ fn run_output(alloc: Global, script: Script) -> Result<Output, Stop>
     };
     let line = ending_line(alloc, ending)?;
     Ok(Output {
+        files: Vec::new(alloc),
         out: printed.text,
         ending,
         line,
@@ -66,6 +62,7 @@ fn run_output(alloc: Global, script: Script) -> Result<Output, Stop>
 
 fn text_output(alloc: Global, text: &[u8]) -> Result<Output, Stop>
     ensures makes { Makes result (script_told (program_of text.now)) }
+    ensures no_files { LeavesFiles result }
     ensures attested { OnOk result (IsAttestedText text.now) }
 {
     match read_script(alloc, text) {
@@ -81,38 +78,66 @@ fn text_output(alloc: Global, text: &[u8]) -> Result<Output, Stop>
 /// The output of `script`: the whole input is read, then the whole text is tried, then it is run.
 #[tactic(auto, unfolding(crate::specs::Plans::script_plan))]
 pub fn prepare_script<S: Source>(alloc: Global, input: &mut S) -> Result<Output, Stop>
-    ensures gives { Prepares result (told (S.left input.old) script_plan) }
+    ensures gives { IsReady (S.left input.old) script_plan result }
     ensures fault { IsErrOf result Stop.Fault → Rose (S.faults input.old) (S.faults input.new) }
+    ensures absent { IsErrOf result Stop.Absent → ⊥ }
+    ensures no_files { LeavesFiles result }
     ensures later { S.faults input.old ≤ S.faults input.new }
     ensures end { OnOk result ((text : List ℕ) → S.left input.old ≡ Some text → S.left input.new ≡ Some []) }
     ensures attested { OnOk result ((text : List ℕ) → S.left input.old ≡ Some text → IsAttestedText text) }
 {
     match take_all(alloc, input, INPUT_LIMIT) {
         Ok(text) => text_output(alloc, &text),
-        Err(ReadFault::TooLong) => {
-            let line = long_line(alloc)?;
-            Err(Stop::Bad(line))
-        }
+        Err(ReadFault::TooLong) => Err(too_long(alloc, "-")),
         Err(ReadFault::Memory) => Err(Stop::Memory),
         Err(ReadFault::Failed) | Err(ReadFault::Missing) => Err(Stop::Fault),
     }
 }
 
-/// What a command has to write, or what keeps it from writing. Only its input is read.
-#[tactic(auto, unfolding(crate::specs::Plans::plan_of))]
-pub fn prepare<S: Source>(
+// What a command has to write, or what keeps it from writing.
+#[tactic(auto, using(crate::proofs::Readings::script_prepared, crate::proofs::Readings::asm_prepared))]
+fn prepare_command<F: Files, S: Source>(
     alloc: Global,
-    command: Option<Command>,
+    command: Command<'_>,
+    files: &mut F,
     input: &mut S,
 ) -> Result<Output, Stop>
-    ensures gives { Prepares result (plan_of command (S.left input.old)) }
-    ensures fault { IsErrOf result Stop.Fault → (command ≡ Some ACommand.Script) × Rose (S.faults input.old) (S.faults input.new) }
+    requires { IsNamed command }
+    ensures gives { IsPrepared (Some (form_of command.entry)) (F.held files.old) (S.left input.old) result }
+    ensures fault { IsFailed result → ReadFails (Some (form_of command.entry)) (F.held files.old) (F.faults files.old) (F.faults files.new) (S.faults input.old) (S.faults input.new) }
+    ensures same { F.held files.new ≡ F.held files.old }
+    ensures left { NeedsNoFiles (Some (form_of command.entry)) result (F.faults files.old) (F.faults files.new) }
+    ensures files_later { F.faults files.old ≤ F.faults files.new }
     ensures later { S.faults input.old ≤ S.faults input.new }
-    ensures input { IsRead command result (S.left input.old) (S.left input.new) }
-    ensures attested { OnOk result ((text : List ℕ) → command ≡ Some ACommand.Script → S.left input.old ≡ Some text → IsAttestedText text) }
+    ensures input { IsRead (Some (form_of command.entry)) result (S.left input.old) (S.left input.new) }
+    ensures attested { OnOk result ((text : List ℕ) → form_of command.entry ≡ script → S.left input.old ≡ Some text → IsAttestedText text) }
+{
+    match command {
+        Command::Script => prepare_script(alloc, input),
+        Command::Asm { text, elf } => prepare_asm(alloc, files, text, elf),
+    }
+}
+
+/// What a command has to write, or what keeps it from writing. Nothing is read but the input of `script` and the files
+/// that the words name, and no file is changed.
+pub fn prepare<F: Files, S: Source>(
+    alloc: Global,
+    command: Option<Command<'_>>,
+    files: &mut F,
+    input: &mut S,
+) -> Result<Output, Stop>
+    requires { ForSome command IsNamed }
+    ensures gives { IsPrepared (option_map form_of command.entry) (F.held files.old) (S.left input.old) result }
+    ensures fault { IsFailed result → ReadFails (option_map form_of command.entry) (F.held files.old) (F.faults files.old) (F.faults files.new) (S.faults input.old) (S.faults input.new) }
+    ensures same { F.held files.new ≡ F.held files.old }
+    ensures left { NeedsNoFiles (option_map form_of command.entry) result (F.faults files.old) (F.faults files.new) }
+    ensures files_later { F.faults files.old ≤ F.faults files.new }
+    ensures later { S.faults input.old ≤ S.faults input.new }
+    ensures input { IsRead (option_map form_of command.entry) result (S.left input.old) (S.left input.new) }
+    ensures attested { OnOk result ((text : List ℕ) → option_map form_of command.entry ≡ Some script → S.left input.old ≡ Some text → IsAttestedText text) }
 {
     match command {
         None => Err(Stop::Misused),
-        Some(Command::Script) => prepare_script(alloc, input),
+        Some(command) => prepare_command(alloc, command, files, input),
     }
 }

@@ -3,7 +3,7 @@
 ghost use Rattle.std.specs.Prelude.{◌≤◌};
 
 use super::*;
-use att_base::{MemSink, MemSource, Words};
+use att_base::{MemFiles, MemSink, MemSource, Words};
 use std::alloc::{AllocError, Global};
 use std::process::Abort;
 use std::test::Fail;
@@ -48,7 +48,8 @@ fn expect(
     }
     let (mut input, mut out, mut err) = outside;
     let (status, text, line, left) = want;
-    let found = attest(alloc, &list, &mut input, &mut out, &mut err);
+    let mut files = MemFiles::new(alloc, Vec::new(alloc), Vec::new(alloc));
+    let found = attest(alloc, &list, &mut files, &mut input, &mut out, &mut err);
     assert_eq!(rt; found, status, "in {name}");
     assert_eq!(rt; out.held(), text.as_bytes(), "in {name}");
     assert_eq!(rt; err.held(), line.as_bytes(), "in {name}");

@@ -1,19 +1,19 @@
-use Rattle.std.proofs.Common.{refl, ◌∙◌}
+use Rattle.std.proofs.Common.{refl}
 use Rattle.attest_top.specs.Answers.{Sight, fault}
-use Rattle.attest_top.specs.Lines.{fault_line}
-use Rattle.attest_top.proofs.Finishes.{faulted, front_written, finished, line_prepared}
+use Rattle.attest_top.specs.Lines.{fault_line, memory_line}
+use Rattle.attest_top.proofs.Finishes.{faulted, files_written, files_stopped, wanting}
 use Rattle.attest_top.proofs.finish.write.Goals as goal
 
-pub returns-in_default-clause-answer : goal.returns-in_default-clause-answer
+pub returns-in-Err-Failed-clause-answer : goal.returns-in-Err-Failed-clause-answer
 unfolding fault_line
-returns-in_default-clause-answer g c = λ plan p.
-    let old : Sight = record { out = g.O.Sink.held c.args.out.now; err = g.E.Sink.held c.args.err.now } in
-    let new : Sight = record { out = g.O.Sink.held c.put_all.new.sink; err = g.E.Sink.held c.say.new.err } in
-    faulted plan old new fault_line c.say.result _ _ (front_written plan c.args.output.now p old new (rw c.deref.ensures.value at c.in_default.ensures.err)) (fault refl) c.say.ensures.said
+returns-in-Err-Failed-clause-answer g c = λ plan p.
+    let old : Sight = record { files = g.F.Files.held c.args.files.now; out = g.O.Sink.held c.args.out.now; err = g.E.Sink.held c.args.err.now } in
+    let new : Sight = record { files = g.F.Files.held c.write_files.new.files; out = g.O.Sink.held c.args.out.now; err = g.E.Sink.held c.say.new.err } in
+    faulted plan old new fault_line c.say.result _ _ (files_written plan c.args.output.now p old new (rw c.deref.ensures.value at c.in-Err-Failed.ensures.err) refl) (fault refl) c.say.ensures.said
 
-pub returns-clause-answer : goal.returns-clause-answer
-returns-clause-answer g c = λ plan p.
-    let old : Sight = record { out = g.O.Sink.held c.args.out.now; err = g.E.Sink.held c.args.err.now } in
-    let new : Sight = record { out = g.O.Sink.held c.put_all.new.sink; err = g.E.Sink.held c.say-2.new.err } in
-    let line = rw c.status_of.ensures at c.say-2.ensures.said in
-    finished plan c.args.output.now p old new c.as_bytes.result.now c.say-2.result _ _ (c.as_bytes.ensures.value ∙ line_prepared plan c.args.output.now p) (rw c.deref.ensures.value at c.in-Ok.ensures.ok) line
+pub returns-in-Err-Memory-clause-answer : goal.returns-in-Err-Memory-clause-answer
+unfolding memory_line
+returns-in-Err-Memory-clause-answer g c = λ plan p.
+    let old : Sight = record { files = g.F.Files.held c.args.files.now; out = g.O.Sink.held c.args.out.now; err = g.E.Sink.held c.args.err.now } in
+    let new : Sight = record { files = g.F.Files.held c.write_files.new.files; out = g.O.Sink.held c.args.out.now; err = g.E.Sink.held c.say-in-Err-Memory.new.err } in
+    wanting plan old new c.say-in-Err-Memory.result _ _ (files_stopped plan c.args.output.now p old new (rw c.deref.ensures.value at c.in-Err-Memory.ensures.err) refl) c.say-in-Err-Memory.ensures.said
