@@ -17,7 +17,8 @@ use Rattle.elf32.specs.declared.faults.ElfFault.{ElfFault}
 use Rattle.elf32.specs.declared.faults.ElfFault.TheVariants.{Short, Magic, Class, Kind, Machine, Compressed, ProgramTable, Dynamic, SegmentRange}
 use Rattle.elf32.specs.Fields.{word_at, word}
 use Rattle.elf32.specs.Files.{FileSegment, Executable, e_phoff, e_phnum, e_machine, e_version, e_phentsize, has_magic, has_class, has_kind, has_table, is_compressed, is_dynamic, is_out_of_range, is_loaded, header, headers, first_headers, loaded_headers, segment_of, first_fault, executable, unless, elf_of}
-use Rattle.elf32.specs.Written.{identity, elf_header, segment_header, segment_headers, total_size, contents, contents_start, elf_bytes, is_filled, whole, loaded, HasHeader, HasSegment, IsWritable}
+use Rattle.elf32.specs.Written.{identity, elf_header, segment_header, segment_headers, contents, contents_start, elf_bytes, is_filled, whole, loaded, HasHeader, HasSegment}
+use Rattle.program.specs.Writable.{total_size, IsWritable}
 use Rattle.elf32.proofs.FirstHeaders.{none_yet, one_more, any_of_none, any_more}
 use Rattle.elf32.proofs.SegmentHeaders.{headers_none, headers-cons, headers-append}
 use Rattle.elf32.proofs.Stands.{Stands, stands_whole, stands_left, stands_right, stands_as, stands_bytes, stands_within, words_stand, word_read, small_read, length-words}

@@ -3,7 +3,8 @@ use Rattle.std.proofs.Common.{◌≡◌, ℕ, ◌+◌, List, [], ◌∷◌, ◌+
 use Rattle.std.proofs.lemmas.List.{append-nil}
 use Rattle.std.proofs.lemmas.List.Sums.{sum_by-cons}
 use Rattle.program.specs.declared.Segment.{Segment}
-use Rattle.elf32.specs.Written.{segment_header, segment_headers, total_size}
+use Rattle.elf32.specs.Written.{segment_header, segment_headers}
+use Rattle.program.specs.Writable.{total_size}
 
 pub headers_none : (start : ℕ) → segment_headers start [] ≡ []
 unfolding segment_headers

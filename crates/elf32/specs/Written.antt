@@ -1,5 +1,5 @@
 -- The ELF file of a program: its header, one program header for each segment, and the segments' bytes without gaps.
-use Rattle.std.specs.Prelude.{◌≡◌, ℕ, ◌+◌, ◌*◌, ◌%◌, ◌^◌, ◌≤◌, Bool, not, ◌==◌, List, [], ◌∷◌, ◌++◌, length, map, filter, take, drop, sum_by, All}
+use Rattle.std.specs.Prelude.{◌≡◌, ℕ, ◌+◌, ◌*◌, ◌%◌, ◌^◌, ◌≤◌, Bool, not, ◌==◌, List, [], ◌∷◌, ◌++◌, length, map, filter, take, drop}
 use Rattle.std.specs.List.{flat_map}
 use Rattle.program.specs.declared.Program.{Program}
 use Rattle.program.specs.declared.Segment.{Segment}
@@ -28,10 +28,6 @@ segment_header offset s = flat_map word (1 ∷ offset ∷ s.addr ∷ s.addr ∷ 
 unfoldable pub segment_headers : ℕ → List Segment → List ℕ
 segment_headers offset [] = []
 segment_headers offset (s ∷ rest) = segment_header offset s ++ segment_headers (offset + length s.bytes) rest
-
--- how many bytes the segments have
-abbrev pub total_size : List Segment → ℕ
-total_size segments = sum_by (λ s. length s.bytes) segments
 
 -- the segments' bytes
 abbrev pub contents : List Segment → List ℕ
@@ -73,13 +69,6 @@ pub record HasSegment (bytes : List ℕ) (k offset : ℕ) (s : Segment) : Type 0
   pub p_align : word_at bytes (52 + 32 * k + 28) ≡ 1
   pub bytes_are : take (length s.bytes) (drop offset bytes) ≡ s.bytes
   pub within : offset + length s.bytes ≤ length bytes
-
--- what can be written
-pub record IsWritable (p : Program) : Type 0 where
-  pub some : 1 ≤ length p.segments
-  pub few : length p.segments ≤ 64
-  pub small : total_size p.segments ≤ 1048576
-  pub ends : All (λ s. s.addr + length s.bytes ≤ 2 ^ 32) p.segments
 
 -- what the program loads: its segments that aren't empty
 abbrev pub is_filled : Segment → Bool

@@ -6,7 +6,8 @@ ghost use Rattle.program.specs.declared.Program.{Program};
 ghost use Rattle.program.specs.declared.Segment.{Segment};
 ghost use Rattle.elf32.specs.declared.faults.ElfFault.TheVariants.{Short, SegmentRange};
 ghost use Rattle.elf32.specs.Files.{FileSegment, Executable, elf_of};
-ghost use Rattle.elf32.specs.Written.{HasHeader, HasSegment, IsWritable, contents_start, elf_bytes, total_size};
+ghost use Rattle.elf32.specs.Written.{HasHeader, HasSegment, contents_start, elf_bytes};
+ghost use Rattle.program.specs.Writable.{IsWritable, total_size};
 ghost use Rattle.elf32.specs.Worked.{marked_file, cut_file};
 
 /// A file of 124 bytes with a stack marker is read as its one segment; without its last byte the segment has a byte

@@ -4,7 +4,8 @@ ghost use Rattle.std.specs.Prelude.{◌≡◌, ◌+◌, ◌^◌, ◌<◌, ◌≤
 ghost use Rattle.std.specs.List.{flat_map};
 ghost use Rattle.elf32.specs.Fields.{half, word};
 ghost use Rattle.elf32.specs.Files.{elf_of};
-ghost use Rattle.elf32.specs.Written.{elf_header, segment_header, segment_headers, contents, total_size, elf_bytes, loaded, IsWritable};
+ghost use Rattle.elf32.specs.Written.{elf_header, segment_header, segment_headers, contents, elf_bytes, loaded};
+ghost use Rattle.program.specs.Writable.{total_size, IsWritable};
 
 use byteorder::{ByteOrder, LittleEndian};
 use program::{Program, Segment};

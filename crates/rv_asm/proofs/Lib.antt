@@ -8,3 +8,7 @@ pub mod Hexes
 pub mod ShownOrders
 pub mod ShownLines
 pub mod ShownAgain
+pub mod Sizes
+pub mod Begins
+pub mod Follows
+pub mod Writable

@@ -1,6 +1,7 @@
 // From a text to an executable.
 
-ghost use Rattle.std.specs.Prelude.{◌≡◌, ◌+◌, ◌<◌, ◌≤◌, length};
+ghost use Rattle.std.specs.Prelude.{◌≡◌, ◌+◌, ◌<◌, ◌≤◌, length, IfOk};
+ghost use Rattle.program.specs.Writable.{IsWritable};
 ghost use Rattle.asm_lines.specs.Lines.{lines_of};
 ghost use Rattle.rv_asm.specs.Gives.{GivesAt};
 ghost use Rattle.rv_asm.specs.First.{place_of};
@@ -45,10 +46,11 @@ fn with_labels(alloc: Global, text: &[u8], place: &Place<'_>) -> Result<Program,
 
 /// The executable that an assembler text says, or the text's first fault: the first of the first pass, else a missing
 /// `.entry`, else the first of the second pass. Lines are counted from 1; without `.entry` the line after the last is
-/// at fault. `Memory` may come before any of them.
+/// at fault. `Memory` may come before any of them. What is given can be written as an ELF file.
 #[tactic(auto, unfolding(crate::specs::Assembled::assembled))]
 pub fn assemble(alloc: Global, text: &[u8]) -> Result<Program, AsmFault>
-    ensures { GivesAt (λ program. program) result (assembled text.now) }
+    ensures gives { GivesAt (λ program. program) result (assembled text.now) }
+    ensures writable { IfOk result (λ program. IsWritable program) }
 {
     let place = first_pass(alloc, text)?;
     with_labels(alloc, text, &place)

@@ -25,5 +25,5 @@ mod tests;
 
 pub use assembling::assemble;
 pub use faults::AsmFault;
-pub use laws::shown_texts_assemble;
+pub use laws::{programs_can_be_written, shown_texts_assemble};
 pub use showing::show;

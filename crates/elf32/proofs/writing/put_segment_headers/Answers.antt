@@ -2,7 +2,8 @@ use Rattle.std.proofs.Common.{◌≡◌, ℕ, ◌+◌, List, [], ◌∷◌, ◌+
 use Rattle.std.proofs.lemmas.List.{append-nil, take_more}
 use Rattle.std.proofs.lemmas.List.Sums.{sum_by-append}
 use Rattle.program.specs.declared.Segment.{Segment}
-use Rattle.elf32.specs.Written.{segment_headers, total_size}
+use Rattle.elf32.specs.Written.{segment_headers}
+use Rattle.program.specs.Writable.{total_size}
 use Rattle.elf32.proofs.SegmentHeaders.{headers_none, headers_more}
 use Rattle.elf32.proofs.writing.put_segment_headers.Goals as goal
 
