@@ -1,0 +1,4 @@
+pub mod Joined
+pub mod Firsts
+pub mod OneEach
+pub mod Told
