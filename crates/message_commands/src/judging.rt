@@ -1,0 +1,95 @@
+//! The verdicts on a report and on a note, and what is written of them.
+
+ghost use Rattle.std.specs.Prelude.{◌≡◌, [], IfOk};
+ghost use Rattle.std.specs.Option.{option_copied};
+ghost use Rattle.report.specs.Reports.{report_in};
+ghost use Rattle.verifier.specs.Verdicts.{Standing};
+ghost use Rattle.plans.specs.Written.{IsFinal, written};
+ghost use Rattle.message_commands.specs.Plans.{Knowledge, accepts, accepts_note, ending_of, judgement, note_judged};
+
+use crate::lines::verdict_lines;
+use image_set::ImageSet;
+use plans::{Ending, Output};
+use report::read_report;
+use std::alloc::{AllocError, Global};
+use verifier::{NoteVerdict, Verdict, Verifier};
+
+fn accepts(verdict: Verdict) -> bool
+    ensures { result ≡ accepts verdict }
+{
+    match verdict {
+        Verdict::Accepted { .. } => true,
+        Verdict::Malformed
+        | Verdict::WrongChallenge
+        | Verdict::Stale { .. }
+        | Verdict::WrongShape
+        | Verdict::UnknownMemory => false,
+    }
+}
+
+fn accepts_note(verdict: Option<NoteVerdict>) -> bool
+    ensures { result ≡ accepts_note verdict }
+{
+    match verdict {
+        None | Some(NoteVerdict::Accepted { .. }) => true,
+        Some(NoteVerdict::Malformed)
+        | Some(NoteVerdict::WrongReport)
+        | Some(NoteVerdict::WrongTag) => false,
+    }
+}
+
+// Whether each verdict that is printed accepts.
+fn ending_of(verdict: Verdict, note: Option<NoteVerdict>) -> Ending
+    ensures { result ≡ ending_of verdict note }
+{
+    if accepts(verdict) && accepts_note(note) {
+        Ending::Accepted
+    } else {
+        Ending::Refused
+    }
+}
+
+// The verdict on the note, where the report is accepted and a note is there.
+fn note_judged(
+    verifier: &Verifier<'_>,
+    verdict: Verdict,
+    report: &[u8],
+    note: Option<&[u8]>,
+) -> Option<NoteVerdict>
+    ensures { result ≡ note_judged verifier.now.key verdict (report_in report.now) (option_copied note.entry) }
+{
+    let note = note?;
+    if !accepts(verdict) {
+        return None;
+    }
+    match read_report(report) {
+        Some(report) => Some(verifier.judge_note(note, &report)),
+        None => None,
+    }
+}
+
+/// What is written of the verdicts on the bytes of a report, and of a note where there is one.
+#[tactic(auto, unfolding(crate::specs::Plans::judgement))]
+pub fn judgement(
+    alloc: Global,
+    verifier: &mut Verifier<'_>,
+    set: &ImageSet,
+    report: &[u8],
+    note: Option<&[u8]>,
+) -> Result<Output, AllocError>
+    requires { set.now.shape ≡ verifier.old.shape }
+    ensures gives { let known : Knowledge = record { standing = verifier.old; images = set.now.images } in
+        IfOk result (λ o. written o ≡ judgement known report.now (option_copied note.entry)) }
+    ensures last { IfOk result IsFinal }
+    ensures no_files { IfOk result (λ o. o.files.items ≡ []) }
+{
+    let verdict = verifier.judge(report, set);
+    let noted = note_judged(verifier, verdict, report, note);
+    let lines = verdict_lines(alloc, set, verdict, noted)?;
+    Ok(Output {
+        files: Vec::new(alloc),
+        out: lines.into_bytes(),
+        ending: ending_of(verdict, noted),
+        line: String::new(alloc),
+    })
+}
