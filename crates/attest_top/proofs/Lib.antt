@@ -1,3 +1,3 @@
 pub mod Finishes
-pub mod Readings
+pub mod Kept
 pub mod Tops

@@ -4,12 +4,15 @@ use Rattle.std.specs.List.{fold}
 use Rattle.att_base.specs.Streams.{put_after, AppendsFront}
 use Rattle.att_base.specs.Files.{Held, put_under, PutsFront}
 use Rattle.att_base.specs.FilesInMemory.{Named}
-use Rattle.attest_top.specs.declared.output.Ending.{Ending}
-use Rattle.attest_top.specs.declared.output.Ending.TheVariants as endings
+use Rattle.plans.specs.declared.output.Ending.{Ending}
+use Rattle.plans.specs.declared.output.Ending.TheVariants as endings
+use Rattle.plans.specs.Steps.{bad}
+use Rattle.plans.specs.Written.{Written}
+use Rattle.plans.specs.Lines.{ending_line}
 use Rattle.attest_top.specs.declared.status.Status.{Status}
 use Rattle.attest_top.specs.declared.status.Status.TheVariants.{Good, Rejected, Usage, BadInput, OutsideFault, Full, Memory}
-use Rattle.attest_top.specs.Lines.{usage_line, fault_line, memory_line, ending_line}
-use Rattle.attest_top.specs.Plans.{Written, bad, Plan, misused, planned}
+use Rattle.attest_top.specs.Lines.{usage_line, fault_line, memory_line}
+use Rattle.attest_top.specs.Plans.{Plan, misused, planned, unknown}
 
 -- what files, standard output and standard error hold, where they tell
 pub record Sight : Type 0 where
@@ -41,9 +44,8 @@ pub record WritesAll (w : Written) (old new : Sight) : Type 0 where
 
 -- the plan is to write, with this ending, and that has been done
 abbrev pub Does : Plan → Ending → Sight → Sight → Type 0
-Does misused ending old new = ⊥
 Does (planned (Ok w)) ending old new = (w.ending ≡ ending) × WritesAll w old new
-Does (planned (Err reason)) ending old new = ⊥
+Does _ ending old new = ⊥
 
 -- what is read is bad, and standard error says in which way
 abbrev pub IsBad : Plan → Sight → Sight → Type 0
@@ -62,15 +64,15 @@ pub data Stops (w : Written) (old new : Sight) : Type 0 where
   in_out : new.files ≡ after_files w.files old.files → AppendsFront old.out new.out w.out → Stops w old new
 
 abbrev pub WritesSome : Plan → Sight → Sight → Type 0
-WritesSome misused old new = WritesNothing old new
 WritesSome (planned (Ok w)) old new = Stops w old new
-WritesSome (planned (Err reason)) old new = WritesNothing old new
+WritesSome _ old new = WritesNothing old new
 
--- what stands where there was no memory: standard output is as it was, and so are all files where nothing is to be written
+-- what stands where there was no memory: standard output is as it was, and so are all files where it isn't known that
+-- any is to be written
 abbrev pub StopsForMemory : Plan → Sight → Sight → Type 0
-StopsForMemory misused old new = ⊥
 StopsForMemory (planned (Ok w)) old new = FilesFront w.files old.files new.files × (new.out ≡ old.out)
-StopsForMemory (planned (Err reason)) old new = WritesNothing old new
+StopsForMemory unknown old new = WritesNothing old new
+StopsForMemory _ old new = ⊥
 
 -- the lines that standard error may get
 pub data IsLineOf (plan : Plan) (line : List ℕ) : Type 0 where

@@ -12,4 +12,4 @@ pub record IsAnswered (form : Option Form) (input : Option (List ℕ)) (old new 
   pub plan : Plan
   pub is : IsPlan form old.files input plan
   pub answers : Answers status plan old new
-  pub complete : (HasCause form old.files before now → ⊥) → CanEnd plan status
+  pub complete : (HasCause form old.files input before now → ⊥) → CanEnd plan status

@@ -4,15 +4,17 @@ ghost use Rattle.std.specs.Prelude.{◌≡◌, ◌≤◌, ◌⊎◌, ℕ, List, 
 ghost use Rattle.att_base.specs.Faults.{Rose};
 ghost use Rattle.att_base.specs.Files.{Held, IsName};
 ghost use Rattle.attest_top.specs.declared.status.Status.{Status as AStatus};
-ghost use Rattle.attest_top.specs.Plans.{Plan};
+ghost use Rattle.plans.specs.Written.{written, IsFinal};
+ghost use Rattle.attest_top.specs.Plans.{planned};
 ghost use Rattle.attest_top.specs.Answers.{Answers, Sight, after_files, FilesFront};
 ghost use Rattle.attest_top.specs.Endings.{CanEnd, IsNotDone, status_of};
-ghost use Rattle.attest_top.specs.Makes.{Prepares, LeavesFiles, IsFailed};
+ghost use Rattle.attest_top.specs.Makes.{found_plan, WritesNoFiles, IsStopped};
 ghost use Rattle.attest_top.specs.Says.{Says, stop_line, stop_status};
+ghost use Rattle.attest_top.specs.Lines.{usage_line};
 
 use crate::Status;
-use crate::output::{Ending, Output, Stop};
 use att_base::{FileFault, Files, NamedFile, Sink, put_all, write_whole};
+use plans::{Ending, Output, Stop};
 use std::alloc::Global;
 
 const USAGE_LINE: &[u8] = b"attest: usage\n";
@@ -66,8 +68,9 @@ fn write_files<F: Files>(
 
 // Writes standard output, and says the line of the ending.
 fn write_out<O: Sink, E: Sink>(output: &Output, out: &mut O, err: &mut E) -> Status
-    ensures answer { (plan : Plan) (before now : Option Held) → Prepares (Ok output.now) plan → now ≡ after_files output.now.files.items before
-        → Answers result plan (record { files = before; out = O.held out.old; err = E.held err.old }) (record { files = now; out = O.held out.new; err = E.held err.new }) }
+    requires { IsFinal output.now }
+    ensures answer { (before now : Option Held) → now ≡ after_files output.now.files.items before
+        → Answers result (planned (Ok (written output.now))) (record { files = before; out = O.held out.old; err = E.held err.old }) (record { files = now; out = O.held out.new; err = E.held err.new }) }
     ensures fault { result ≡ AStatus.OutsideFault → Rose (O.faults out.old) (O.faults out.new) ⊎ Rose (E.faults err.old) (E.faults err.new) }
     ensures ends { (result ≡ AStatus.OutsideFault) ⊎ (result ≡ status_of output.now.ending) }
     ensures out_later { O.faults out.old ≤ O.faults out.new }
@@ -87,9 +90,8 @@ fn write<F: Files, O: Sink, E: Sink>(
     out: &mut O,
     err: &mut E,
 ) -> Status
-    requires { All (λ file. IsName file.name) output.now.files.items }
-    ensures answer { (plan : Plan) → Prepares (Ok output.now) plan
-        → Answers result plan (record { files = F.held files.old; out = O.held out.old; err = E.held err.old }) (record { files = F.held files.new; out = O.held out.new; err = E.held err.new }) }
+    requires { IsFinal output.now }
+    ensures answer { Answers result (planned (Ok (written output.now))) (record { files = F.held files.old; out = O.held out.old; err = E.held err.old }) (record { files = F.held files.new; out = O.held out.new; err = E.held err.new }) }
     ensures fault { result ≡ AStatus.OutsideFault → Rose (F.faults files.old) (F.faults files.new) ⊎ Rose (O.faults out.old) (O.faults out.new) ⊎ Rose (E.faults err.old) (E.faults err.new) }
     ensures ends { (result ≡ AStatus.OutsideFault) ⊎ (result ≡ AStatus.Memory) ⊎ (result ≡ status_of output.now.ending) }
     ensures none { output.now.files.items ≡ [] → (F.held files.new ≡ F.held files.old) × (F.faults files.new ≡ F.faults files.old) }
@@ -104,14 +106,22 @@ fn write<F: Files, O: Sink, E: Sink>(
     }
 }
 
+/// Says that the words are in no form.
+#[tactic(auto, unfolding(crate::specs::Lines::usage_line))]
+pub fn say_usage<E: Sink>(err: &mut E) -> Status
+    ensures said { Says usage_line AStatus.Usage result (E.held err.old) (E.held err.new) (E.faults err.old) (E.faults err.new) }
+    ensures later { E.faults err.old ≤ E.faults err.new }
+{
+    say(err, USAGE_LINE, Status::Usage)
+}
+
 // Says why nothing is written.
-#[tactic(auto, unfolding(crate::specs::Lines::usage_line, crate::specs::Lines::fault_line, crate::specs::Lines::memory_line))]
+#[tactic(auto, unfolding(crate::specs::Lines::fault_line, crate::specs::Lines::memory_line))]
 fn say_stop<E: Sink>(stop: &Stop, err: &mut E) -> Status
     ensures said { Says (stop_line stop.now) (stop_status stop.now) result (E.held err.old) (E.held err.new) (E.faults err.old) (E.faults err.new) }
     ensures later { E.faults err.old ≤ E.faults err.new }
 {
     match stop {
-        Stop::Misused => say(err, USAGE_LINE, Status::Usage),
         Stop::Absent | Stop::Fault => say(err, FAULT_LINE, Status::OutsideFault),
         Stop::Bad(line) => say(err, line.as_bytes(), Status::BadInput),
         Stop::Memory => say(err, MEMORY_LINE, Status::Memory),
@@ -126,13 +136,12 @@ pub fn finish<F: Files, O: Sink, E: Sink>(
     out: &mut O,
     err: &mut E,
 ) -> Status
-    requires { IfOk prepared.now (λ output. All (λ file. IsName file.name) output.files.items) }
-    ensures answer { (plan : Plan) → Prepares prepared.now plan
-        → Answers result plan (record { files = F.held files.old; out = O.held out.old; err = E.held err.old }) (record { files = F.held files.new; out = O.held out.new; err = E.held err.new }) }
-    ensures fault { result ≡ AStatus.OutsideFault → IsFailed prepared.now ⊎ Rose (F.faults files.old) (F.faults files.new) ⊎ Rose (O.faults out.old) (O.faults out.new) ⊎ Rose (E.faults err.old) (E.faults err.new) }
-    ensures ends { (plan : Plan) → Prepares prepared.now plan → (result ≡ AStatus.OutsideFault) ⊎ CanEnd plan result }
+    requires { IfOk prepared.now IsFinal }
+    ensures answer { Answers result (found_plan prepared.now) (record { files = F.held files.old; out = O.held out.old; err = E.held err.old }) (record { files = F.held files.new; out = O.held out.new; err = E.held err.new }) }
+    ensures fault { result ≡ AStatus.OutsideFault → IsStopped prepared.now ⊎ Rose (F.faults files.old) (F.faults files.new) ⊎ Rose (O.faults out.old) (O.faults out.new) ⊎ Rose (E.faults err.old) (E.faults err.new) }
+    ensures ends { (result ≡ AStatus.OutsideFault) ⊎ CanEnd (found_plan prepared.now) result }
     ensures wrote { IsErr prepared.now → IsNotDone result }
-    ensures left { LeavesFiles prepared.now → (F.held files.new ≡ F.held files.old) × (F.faults files.new ≡ F.faults files.old) }
+    ensures left { WritesNoFiles prepared.now → (F.held files.new ≡ F.held files.old) × (F.faults files.new ≡ F.faults files.old) }
     ensures files_later { F.faults files.old ≤ F.faults files.new }
     ensures out_later { O.faults out.old ≤ O.faults out.new }
     ensures err_later { E.faults err.old ≤ E.faults err.new }

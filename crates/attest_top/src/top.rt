@@ -4,13 +4,13 @@ ghost use Rattle.std.specs.Prelude.{◌≡◌};
 ghost use Rattle.attest_top.specs.declared.status.Status.{Status as AStatus};
 ghost use Rattle.attest_top.specs.Lines.{command_of};
 ghost use Rattle.attest_top.specs.Answers.{Sight};
-ghost use Rattle.attest_top.specs.Endings.{Counts, Later, HasCause, ReadsInput, LeavesFiles};
+ghost use Rattle.attest_top.specs.Endings.{Counts, Later, HasCause, ReadsInput, LeavesFiles, KeepsOthers};
 ghost use Rattle.attest_top.specs.Tops.{IsAnswered};
 ghost use Rattle.attest_top.specs.Headline.{HoldsOfScript};
 
 use crate::Status;
 use crate::command::parse;
-use crate::finish::finish;
+use crate::finish::{finish, say_usage};
 use crate::prepare::prepare;
 use att_base::{Files, Sink, Source, Words};
 use std::alloc::Global;
@@ -31,15 +31,19 @@ fn carry_out<F: Files, S: Source, O: Sink, E: Sink>(
         IsAnswered (command_of words.now) (S.left input.old) old new before now result }
     ensures fault { let before : Counts = record { files = F.faults files.old; input = S.faults input.old; out = O.faults out.old; err = E.faults err.old } in
         let now : Counts = record { files = F.faults files.new; input = S.faults input.new; out = O.faults out.new; err = E.faults err.new } in
-        result ≡ AStatus.OutsideFault → HasCause (command_of words.now) (F.held files.old) before now }
+        result ≡ AStatus.OutsideFault → HasCause (command_of words.now) (F.held files.old) (S.left input.old) before now }
     ensures headline { HoldsOfScript (command_of words.now) result (S.left input.old) }
     ensures input { ReadsInput (command_of words.now) result (S.left input.old) (S.left input.new) }
+    ensures others { KeepsOthers (command_of words.now) (F.held files.old) (F.held files.new) }
     ensures files { LeavesFiles (command_of words.now) (F.held files.old) (F.held files.new) (F.faults files.old) (F.faults files.new) }
     ensures later { let before : Counts = record { files = F.faults files.old; input = S.faults input.old; out = O.faults out.old; err = E.faults err.old } in
         let now : Counts = record { files = F.faults files.new; input = S.faults input.new; out = O.faults out.new; err = E.faults err.new } in
         Later before now }
 {
-    let prepared = prepare(alloc, parse(words), files, input);
+    let Some(command) = parse(words) else {
+        return say_usage(err);
+    };
+    let prepared = prepare(alloc, command, files, input);
     finish(alloc, &prepared, files, out, err)
 }
 
@@ -66,11 +70,12 @@ pub fn attest_still<F: Files, S: Source, O: Sink, E: Sink>(
     // there.
     ensures fault { let before : Counts = record { files = F.faults files.old; input = S.faults input.old; out = O.faults out.old; err = E.faults err.old } in
         let now : Counts = record { files = F.faults files.new; input = S.faults input.new; out = O.faults out.new; err = E.faults err.new } in
-        result ≡ AStatus.OutsideFault → HasCause (command_of words.now) (F.held files.old) before now }
+        result ≡ AStatus.OutsideFault → HasCause (command_of words.now) (F.held files.old) (S.left input.old) before now }
     // What a script's printed tags are worth.
     ensures headline { HoldsOfScript (command_of words.now) result (S.left input.old) }
     ensures input { ReadsInput (command_of words.now) result (S.left input.old) (S.left input.new) }
-    // Words that name no file leave all files alone.
+    // Names that the words don't let be written keep what they hold, and words that write none leave all files alone.
+    ensures others { KeepsOthers (command_of words.now) (F.held files.old) (F.held files.new) }
     ensures files { LeavesFiles (command_of words.now) (F.held files.old) (F.held files.new) (F.faults files.old) (F.faults files.new) }
     ensures later { let before : Counts = record { files = F.faults files.old; input = S.faults input.old; out = O.faults out.old; err = E.faults err.old } in
         let now : Counts = record { files = F.faults files.new; input = S.faults input.new; out = O.faults out.new; err = E.faults err.new } in
@@ -95,9 +100,10 @@ pub fn attest<F: Files, S: Source, O: Sink, E: Sink>(
         IsAnswered (command_of words.now) (S.left input.old) old new before now result }
     ensures fault { let before : Counts = record { files = F.faults files.old; input = S.faults input.old; out = O.faults out.old; err = E.faults err.old } in
         let now : Counts = record { files = F.faults files.new; input = S.faults input.new; out = O.faults out.new; err = E.faults err.new } in
-        result ≡ AStatus.OutsideFault → HasCause (command_of words.now) (F.held files.old) before now }
+        result ≡ AStatus.OutsideFault → HasCause (command_of words.now) (F.held files.old) (S.left input.old) before now }
     ensures headline { HoldsOfScript (command_of words.now) result (S.left input.old) }
     ensures input { ReadsInput (command_of words.now) result (S.left input.old) (S.left input.new) }
+    ensures others { KeepsOthers (command_of words.now) (F.held files.old) (F.held files.new) }
     ensures files { LeavesFiles (command_of words.now) (F.held files.old) (F.held files.new) (F.faults files.old) (F.faults files.new) }
     ensures later { let before : Counts = record { files = F.faults files.old; input = S.faults input.old; out = O.faults out.old; err = E.faults err.old } in
         let now : Counts = record { files = F.faults files.new; input = S.faults input.new; out = O.faults out.new; err = E.faults err.new } in
