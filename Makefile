@@ -18,10 +18,12 @@ demo: build
 test:
 	.ci/run
 
-# Long scripts over a memory of 1 MiB, and long assembler texts: each is twice as long as the one before. And turns
-# per second at one shared core, alone and by threads that contend.
+# Long scripts over a memory of 1 MiB, long assembler texts, long executables to list and many images to compare with: each
+# is twice as long as the one before. And turns per second at one shared core, alone and by threads that contend.
 bench: build
 	python3 bench/script.py $(PROGRAM)
 	python3 bench/assembly.py $(PROGRAM)
+	python3 bench/listing.py $(PROGRAM)
+	python3 bench/verify.py $(PROGRAM)
 	@cd crates/turn_bench && { rt run <stdin >build.log 2>&1 || { tail -n 20 build.log; exit 1; }; }
 	python3 bench/turns.py crates/turn_bench/out/turn_bench
