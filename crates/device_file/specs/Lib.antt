@@ -1,0 +1,4 @@
+pub mod Arrays
+pub mod Names
+pub mod Files
+pub mod Plans
