@@ -1,31 +1,48 @@
 #!/usr/bin/env python3
-"""Times `turn_bench`: turns per second at one shared core, alone and by two and four threads that contend.
+"""Times `turn_bench`: events per second at a core that one actor has, and turns per second at a shared core, alone and
+by two, four and nine threads that contend.
 
-Usage: turns.py PROGRAM [TURNS]   (TURNS is that of all threads together, 1,000,000 unless given)
+Usage: turns.py PROGRAM [TURNS [RUNS]]   (TURNS is that of all threads together, 1,000,000 unless given; RUNS is 5)
 
-With a measurer the first thread's turns are Ticks and the others' are Fetches; without, all are Fetches. Prints the
-best of five runs, with the start of the program in it.
+Prints the best of RUNS runs, without the start of the program: a run of few turns is timed too, and taken off.
 """
 import subprocess
 import sys
 import time
 
+# the job, its threads, and what it is
+JOBS = (
+    ("bare", 1, "no lock, in the mix of five Fetches, a Load and a Store"),
+    ("fetches", 1, "Fetches"),
+    ("mix", 1, "the mix"),
+    ("ticks", 1, "Ticks"),
+    ("fetches", 2, "Fetches"),
+    ("fetches", 4, "Fetches"),
+    ("ticks", 2, "a measurer's Ticks beside Fetches"),
+    ("ticks", 4, "a measurer's Ticks beside Fetches"),
+    ("ticks", 9, "a measurer's Ticks beside Fetches"),
+)
 
-def timed(program, threads, turns, first):
+
+def timed(program, job, threads, turns):
+    """The seconds that so many turns of each thread take, and how many entries they make."""
     begun = time.perf_counter()
-    line = f"{threads} {turns // threads} {first}\n"
+    line = f"{job} {threads} {turns}\n"
     done = subprocess.run([program], input=line, capture_output=True, text=True, check=True)
-    assert done.stdout == f"entries {turns // threads * threads}\n", done.stdout
-    return time.perf_counter() - begun
+    spent = time.perf_counter() - begun
+    assert done.stdout == f"{line.strip()}: {turns * threads} entries\n", done.stdout
+    return spent
 
 
 def main():
     program = sys.argv[1]
-    turns = int(sys.argv[2]) if len(sys.argv) > 2 else 1_000_000
-    for threads in (1, 2, 4):
-        for first, what in ((0, "a measurer's Ticks"), (1, "Fetches alone")):
-            best = min(timed(program, threads, turns, first) for _ in range(5))
-            print(f"{threads} threads, {what}: {turns / best:,.0f} turns a second")
+    wanted = int(sys.argv[2]) if len(sys.argv) > 2 else 1_000_000
+    runs = int(sys.argv[3]) if len(sys.argv) > 3 else 5
+    for job, threads, what in JOBS:
+        turns = wanted // threads // 7 * 7
+        start = min(timed(program, job, threads, 7) for _ in range(runs))
+        best = min(timed(program, job, threads, turns) for _ in range(runs)) - start
+        print(f"{threads} threads, {what}: {turns * threads / best:,.0f} a second")
 
 
 main()

@@ -86,6 +86,16 @@ here:   jal     x31, here
         and     t3, t4, t5
         and     x31, x31, x31
 
+# products, quotients and remainders
+        mul     x0, x1, x31
+        mulh    ra, sp, gp
+        mulhsu  tp, t0, t1
+        mulhu   t2, s0, s1
+        div     a0, a1, a2
+        divu    a3, a4, a5
+        rem     a6, a7, s2
+        remu    x31, x31, x31
+
         fence
         ecall
         ebreak

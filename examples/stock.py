@@ -24,7 +24,9 @@ STORES = {"sb": 0, "sh": 1, "sw": 2}
 NUMBERS = {"addi": 0, "slti": 2, "sltiu": 3, "xori": 4, "ori": 6, "andi": 7}
 SHIFTS = {"slli": 0x1000, "srli": 0x5000, "srai": 0x40005000}
 REGISTERS = {"add": 0, "sub": 0x40000000, "sll": 0x1000, "slt": 0x2000, "sltu": 0x3000, "xor": 0x4000, "srl": 0x5000,
-             "sra": 0x40005000, "or": 0x6000, "and": 0x7000}
+             "sra": 0x40005000, "or": 0x6000, "and": 0x7000, "mul": 0x02000000, "mulh": 0x02001000,
+             "mulhsu": 0x02002000, "mulhu": 0x02003000, "div": 0x02004000, "divu": 0x02005000, "rem": 0x02006000,
+             "remu": 0x02007000}
 # the fixed bits of each instruction, and those that may be anything
 WORDS = {"lui": (0x37, 0xFFFFFF80), "auipc": (0x17, 0xFFFFFF80), "jal": (0x6F, 0xFFFFFF80), "jalr": (0x67, 0xFFFF8F80),
          "fence": (0x0FF0000F, 0), "ecall": (0x73, 0), "ebreak": (0x100073, 0)}
@@ -106,7 +108,7 @@ def random_words():
 
 
 def shown(at, word, name, operands):
-    """A disassembled instruction as `show` spells it, or `.word` where the name is none of RV32I's."""
+    """A disassembled instruction as `show` spells it, or `.word` where the name is none of RV32IM's."""
     if name not in WORDS or name == "fence" and word != WORDS["fence"][0]:
         return f".word 0x{word:08x}"
     if name in ("fence", "ecall", "ebreak"):

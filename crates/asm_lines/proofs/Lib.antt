@@ -1,2 +1,4 @@
 pub mod Splits
 pub mod Trims
+pub mod Symbols
+pub mod PlainLines

@@ -1,69 +1,34 @@
--- The first part of a list that is split, by the place of the first element that ends it.
-use Rattle.std.proofs.Common.{◌≡◌, ◌==◌, ℕ, ◌+◌, ◌-◌, ◌<◌, ◌≤◌, Bool, cond, not, true, false, List, [], ◌∷◌, length, take, drop, map, Some, None, nat_lt, refl, ap, ◌∙◌, arith}
+-- The lines of a text by the parts between its LFs, and how many operands a text has at least.
+use Rattle.std.proofs.Common.{◌≡◌, ◌==◌, ℕ, ◌-◌, ◌<◌, List, [], ◌∷◌, length, take, drop, refl, ap, ◌∙◌, arith}
+use Rattle.std.specs.List.{slice_split}
 use Rattle.std.proofs.lemmas.List.{length-map}
-use Rattle.std.proofs.lemmas.List.Sums.{prefix_len-le-length}
-use Rattle.asm_lines.specs.Cuts.{trimmed}
-use Rattle.asm_lines.specs.Operands.{parts_of}
-use Rattle.asm_lines.specs.Lines.{lines_of, ended_lines, without_cr}
-use Rattle.std.specs.List.{slice_split, position, position_or_len}
-use Rattle.std.proofs.lemmas.Option.{cond_some}
-use Rattle.std.proofs.lemmas.List.Splits.{slice_split_first, slice_split_none, length-slice_split}
-use Rattle.std.proofs.lemmas.List.Sums.{fails_before_first}
+use Rattle.std.proofs.lemmas.List.Splits.{length-slice_split}
 use Rattle.std.proofs.lemmas.Bool.Decides.{nat_tests}
-
-cond_none : {A : Type 0} (b : Bool) (x : A) → cond b (Some x) None ≡ None → b ≡ false
-cond_none true x h = cc
-cond_none false x h = refl
-
--- the list is split there
-pub slice_split_here : (p : ℕ → Bool) (xs : List ℕ) (i : ℕ) → position p xs ≡ Some i → slice_split p xs ≡ take i xs ∷ slice_split p (drop (i + 1) xs)
-slice_split_here p xs i h =
-    let parts = cond_some (nat_lt (position_or_len p xs) (length xs)) (position_or_len p xs) i h in
-    let inside : position_or_len p xs < length xs = grind (arith, nat_tests) in
-    rw parts.1 at (slice_split_first p xs 0 inside)
-
--- a list with no such element is the one part
-pub slice_split_nowhere : (p : ℕ → Bool) (xs : List ℕ) → position p xs ≡ None → slice_split p xs ≡ xs ∷ []
-slice_split_nowhere p xs h =
-    let none = cond_none (nat_lt (position_or_len p xs) (length xs)) (position_or_len p xs) h in
-    let past : length xs ≤ position_or_len p xs = grind (arith, nat_tests) in
-    slice_split_none p xs (λ k d inside. fails_before_first p xs k d (omega arith))
+use Rattle.text_readers.specs.Lines.{parts_at}
+use Rattle.asm_lines.specs.Cuts.{trimmed}
+use Rattle.asm_lines.specs.Operands.{operand_parts}
+use Rattle.asm_lines.specs.Lines.{source_lines, ended_lines, without_cr}
 
 ended_lines_more : (line : List ℕ) (parts : List (List ℕ)) → 0 < length parts → ended_lines (line ∷ parts) ≡ without_cr line ∷ ended_lines parts
 ended_lines_more line [] some = absurd (omega (arith, some))
 ended_lines_more line (part ∷ parts) some = refl
 
 -- where a text is split at its first line's end, that line is its first
-pub lines_of_parts : (line text rest : List ℕ) → slice_split (λ b. b == 10) text ≡ line ∷ slice_split (λ b. b == 10) rest → lines_of text ≡ without_cr line ∷ lines_of rest
+pub lines_of_parts : (line text rest : List ℕ) → parts_at 10 text ≡ line ∷ parts_at 10 rest → source_lines text ≡ without_cr line ∷ source_lines rest
 lines_of_parts line text rest h =
-    ap ended_lines h ∙ ended_lines_more line (slice_split (λ b. b == 10) rest) (omega (arith, length-slice_split (λ b. b == 10) rest))
+    ap ended_lines h ∙ ended_lines_more line (parts_at 10 rest) (omega (arith, length-slice_split (λ b. b == 10) rest))
 
 one_part : (part : List ℕ) → 0 < length part → ended_lines (part ∷ []) ≡ part ∷ []
 one_part part some = grind (arith, nat_tests)
 
 -- a text with no line's end is one line
-pub lines_of_one : (text : List ℕ) → 0 < length text → slice_split (λ b. b == 10) text ≡ text ∷ [] → lines_of text ≡ text ∷ []
+pub lines_of_one : (text : List ℕ) → 0 < length text → parts_at 10 text ≡ text ∷ [] → source_lines text ≡ text ∷ []
 lines_of_one text some h = ap ended_lines h ∙ one_part text some
 
 -- nothing stands after the end
 pub nothing_after : (xs : List ℕ) → take (length xs - length xs) (drop (length xs) xs) ≡ []
 nothing_after xs = let none : length xs - length xs ≡ 0 = omega arith in rw none refl
 
--- no place passes where the first that does is the length
-pub position_or_len_nowhere : (p : ℕ → Bool) (xs : List ℕ) → position p xs ≡ None → length xs ≡ position_or_len p xs
-position_or_len_nowhere p xs h =
-    let none = cond_none (nat_lt (position_or_len p xs) (length xs)) (position_or_len p xs) h in
-    let past : length xs ≤ position_or_len p xs = grind (arith, nat_tests) in
-    let most : position_or_len p xs ≤ length xs = prefix_len-le-length (λ x. not (p x)) xs in
-    omega arith
-
--- the operands of a text that has a comma, and of one that has none
-pub parts_of_here : (text : List ℕ) (i : ℕ) → position (λ b. b == 44) text ≡ Some i → parts_of text ≡ trimmed (take i text) ∷ parts_of (drop (i + 1) text)
-parts_of_here text i h = ap (λ parts. map trimmed parts) (slice_split_here (λ b. b == 44) text i h)
-
-pub parts_of_nowhere : (text : List ℕ) → position (λ b. b == 44) text ≡ None → parts_of text ≡ trimmed text ∷ []
-parts_of_nowhere text h = ap (λ parts. map trimmed parts) (slice_split_nowhere (λ b. b == 44) text h)
-
 -- a text has at least one operand
-pub some_parts : (text : List ℕ) → 0 < length (parts_of text)
+pub some_parts : (text : List ℕ) → 0 < length (operand_parts text)
 some_parts text = omega (arith, length-map (slice_split (λ byte. byte == 44) text) trimmed, length-slice_split (λ byte. byte == 44) text)

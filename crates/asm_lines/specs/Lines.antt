@@ -1,6 +1,6 @@
 -- The lines of an assembler text.
 use Rattle.std.specs.Prelude.{ℕ, ◌-◌, ◌==◌, if◌then◌else◌, List, [], ◌∷◌, length, take, slice_index}
-use Rattle.std.specs.List.{slice_split}
+use Rattle.text_readers.specs.Lines.{parts_at}
 
 -- one CR (13) at the end of a line is passed over
 abbrev pub without_cr : List ℕ → List ℕ
@@ -13,5 +13,5 @@ ended_lines (part ∷ []) = if length part == 0 then [] else part ∷ []
 ended_lines (part ∷ next ∷ more) = without_cr part ∷ ended_lines (next ∷ more)
 
 -- the lines of a text, each ended by an LF (10), which the last one may lack
-abbrev pub lines_of : List ℕ → List (List ℕ)
-lines_of text = ended_lines (slice_split (λ byte. byte == 10) text)
+abbrev pub source_lines : List ℕ → List (List ℕ)
+source_lines text = ended_lines (parts_at 10 text)

@@ -1,20 +1,8 @@
 -- Numbers and registers as operands spell them.
-use Rattle.std.specs.Prelude.{ℕ, ◌+◌, ◌^◌, ℤ, pos, neg_ℤ, Bool, ◌&&◌, ◌==◌, nat_le, nat_lt, if◌then◌else◌, List, [], ◌∷◌, length, take, drop, slice_index, codes, Option, Some, None}
-use Rattle.std.specs.Option.{option_and_then}
+use Rattle.std.specs.Prelude.{ℕ, ◌+◌, ◌^◌, ℤ, pos, neg_ℤ, ◌&&◌, ◌==◌, nat_le, nat_lt, if◌then◌else◌, List, [], ◌∷◌, length, take, drop, slice_index, codes, Option, Some, None}
 use Rattle.std.specs.Str.{bytes_eq}
-use Rattle.text_forms.specs.Numbers.{decimal_of, hex_of}
-
-infixl 10 ◌>>=◌
-abbrev pub ◌>>=◌ : {A B : Type 0} → Option A → (A → Option B) → Option B
-o >>= f = option_and_then f o
-
--- a value, if the test holds
-abbrev pub when : {A : Type 0} → Bool → A → Option A
-when test value = if test then Some value else None
-
--- a decimal number with no zero in front of it: 0 itself is spelled `0`
-unfoldable pub plain_decimal : List ℕ → Option ℕ
-plain_decimal digits = if (slice_index digits 0 == 48) && nat_lt 1 (length digits) then None else decimal_of digits
+use Rattle.text_readers.specs.Numbers.{plain_decimal, hex_of}
+use Rattle.sequencing.specs.Options.{◌>>=◌, when}
 
 -- zeros in front of hexadecimal digits don't count
 abbrev pub without_zeros : List ℕ → List ℕ
@@ -39,8 +27,8 @@ spelled word =
       when (nat_lt number (2 ^ 32)) (pos number)))
 
 -- the registers that are a letter and a number: x0 to x31, a0 to a7, t0 to t6 and s0 to s11
-abbrev pub counted : ℕ → ℕ → Option ℕ
-counted letter number =
+abbrev pub register_by_letter : ℕ → ℕ → Option ℕ
+register_by_letter letter number =
     if letter == 120 then when (nat_lt number 32) number
     else (if letter == 97 then when (nat_lt number 8) (10 + number)
     else (if letter == 116 then (if nat_lt number 3 then Some (5 + number) else when (nat_lt number 7) (25 + number))
@@ -50,7 +38,7 @@ counted letter number =
 unfoldable pub counted_register : List ℕ → Option ℕ
 counted_register word = do
   number ← plain_decimal (drop 1 word)
-  counted (slice_index word 0) number
+  register_by_letter (slice_index word 0) number
 
 -- the number of a register (RISC-V ABI specification, "Integer Register Convention")
 unfoldable pub register_of : List ℕ → Option ℕ

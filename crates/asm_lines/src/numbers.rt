@@ -1,19 +1,9 @@
 // Numbers and registers as operands spell them.
 
 ghost use Rattle.std.specs.Prelude.{◌≡◌, ◌<◌, ◌≤◌, ◌^◌, length};
-ghost use Rattle.asm_lines.specs.Numbers.{plain_decimal, without_zeros, plain_hex, spelled, counted, counted_register, register_of};
+ghost use Rattle.asm_lines.specs.Numbers.{without_zeros, plain_hex, spelled, register_by_letter, counted_register, register_of};
 
-use text_forms::{decimal, hex_number};
-
-#[tactic(auto, unfolding(crate::specs::Numbers::plain_decimal))]
-fn plain_decimal(digits: &[u8]) -> Option<u64>
-    ensures { result ≡ plain_decimal digits.now }
-{
-    if digits.len() > 1 && digits[0] == b'0' {
-        return None;
-    }
-    decimal(digits)
-}
+use text_readers::{hex_number, plain_decimal};
 
 fn without_zeros(digits: &[u8]) -> &[u8]
     ensures { result.now ≡ without_zeros digits.now }
@@ -60,8 +50,8 @@ pub fn spelled(word: &[u8]) -> Option<i64>
     Some(number as i64)
 }
 
-fn counted(letter: u8, number: u64) -> Option<u32>
-    ensures { result ≡ counted letter number }
+fn register_by_letter(letter: u8, number: u64) -> Option<u32>
+    ensures { result ≡ register_by_letter letter number }
 {
     if letter == b'x' && number < 32 {
         return Some(number as u32);
@@ -84,7 +74,7 @@ fn counted(letter: u8, number: u64) -> Option<u32>
     None
 }
 
-#[tactic(auto, unfolding(crate::specs::Numbers::counted_register, crate::specs::Numbers::plain_decimal))]
+#[tactic(auto, unfolding(crate::specs::Numbers::counted_register, text_readers::specs::Numbers::plain_decimal))]
 fn counted_register(word: &[u8]) -> Option<u32>
     ensures { result ≡ counted_register word.now }
 {
@@ -92,7 +82,7 @@ fn counted_register(word: &[u8]) -> Option<u32>
         return None;
     }
     let number = plain_decimal(&word[1..])?;
-    counted(word[0], number)
+    register_by_letter(word[0], number)
 }
 
 /// The number of the register that a word names.

@@ -5,12 +5,12 @@ ghost use Rattle.std.specs.Result.{result_map_both};
 ghost use Rattle.std.specs.Option.{option_map};
 ghost use Rattle.asm_lines.specs.Cuts.{has, front_to, behind};
 ghost use Rattle.asm_lines.specs.Operands as spec;
-ghost use Rattle.asm_lines.specs.Operands.{parts_of, operands_of, AreParts, register_at, number_at, indexed_at, label_at, value_at, said};
+ghost use Rattle.asm_lines.specs.Operands.{operand_parts, operands_of, AreParts, register_operand, number_operand, indexed_operand, label_operand, value_operand, said};
 
-use crate::cuts::{begins_here, is_name, trimmed};
+use crate::cuts::{begins_here, first_place, is_symbol, trimmed};
 use crate::kinds::{Kind, both};
-use crate::lines::first_place;
 use crate::numbers::{register_of, spelled};
+use text_readers::cut_at;
 
 /// The operands of a statement that has at most three, or the news that it has more.
 #[derive(Clone, Copy, Debug)]
@@ -32,12 +32,12 @@ pub enum Value<'a> {
 /// The first operand of a text, and the text after its comma, if it has one.
 pub fn next_part(text: &[u8]) -> (&[u8], Option<&[u8]>)
     ensures parts { MatchOption result.1
-        (parts_of text.now ≡ result.0.now ∷ [])
-        (λ rest. parts_of text.now ≡ result.0.now ∷ parts_of rest.now) }
+        (operand_parts text.now ≡ result.0.now ∷ [])
+        (λ rest. operand_parts text.now ≡ result.0.now ∷ operand_parts rest.now) }
     ensures shorter { IfSome result.1 (λ rest. length rest.now < length text.now) }
 {
-    match first_place(b',', text) {
-        Some(at) => (trimmed(&text[..at]), Some(&text[at + 1..])),
+    match cut_at(b',', text) {
+        Some((operand, rest)) => (trimmed(operand), Some(rest)),
         None => (trimmed(text), None),
     }
 }
@@ -76,9 +76,9 @@ fn paren_in(operand: &[u8]) -> Option<usize>
 }
 
 /// The register that is wanted here.
-#[tactic(auto, unfolding(crate::specs::Operands::register_at))]
+#[tactic(auto, unfolding(crate::specs::Operands::register_operand))]
 pub fn register_in(operand: &[u8]) -> Result<u32, Kind>
-    ensures { result ≡ register_at operand.now }
+    ensures { result ≡ register_operand operand.now }
 {
     if !begins_here(operand) {
         return Err(Kind::Operands);
@@ -87,9 +87,9 @@ pub fn register_in(operand: &[u8]) -> Result<u32, Kind>
 }
 
 /// The number that is wanted here.
-#[tactic(auto, unfolding(crate::specs::Operands::number_at))]
+#[tactic(auto, unfolding(crate::specs::Operands::number_operand))]
 pub fn number_in(operand: &[u8]) -> Result<i64, Kind>
-    ensures { result ≡ number_at operand.now }
+    ensures { result ≡ number_operand operand.now }
 {
     if begins_here(operand) || paren_in(operand).is_some() {
         return Err(Kind::Operands);
@@ -98,9 +98,9 @@ pub fn number_in(operand: &[u8]) -> Result<i64, Kind>
 }
 
 /// The number and the register of an operand number(register), which is wanted here.
-#[tactic(auto, unfolding(crate::specs::Operands::indexed_at))]
+#[tactic(auto, unfolding(crate::specs::Operands::indexed_operand))]
 pub fn indexed_in(operand: &[u8]) -> Result<(i64, u32), Kind>
-    ensures { result ≡ indexed_at operand.now }
+    ensures { result ≡ indexed_operand operand.now }
 {
     let Some(at) = paren_in(operand) else {
         return Err(Kind::Operands);
@@ -111,22 +111,22 @@ pub fn indexed_in(operand: &[u8]) -> Result<(i64, u32), Kind>
 }
 
 /// The label that is wanted here.
-#[tactic(auto, unfolding(crate::specs::Operands::label_at))]
+#[tactic(auto, unfolding(crate::specs::Operands::label_operand))]
 pub fn label_in(operand: &[u8]) -> Result<&[u8], Kind>
-    ensures { result_map_both (λ name. name.now) (λ kind. kind) result ≡ label_at operand.now }
+    ensures { result_map_both (λ name. name.now) (λ kind. kind) result ≡ label_operand operand.now }
 {
-    if !is_name(operand) {
+    if !is_symbol(operand) {
         return Err(Kind::Operands);
     }
     Ok(operand)
 }
 
 /// The label or the number that is wanted here.
-#[tactic(auto, unfolding(crate::specs::Operands::value_at))]
+#[tactic(auto, unfolding(crate::specs::Operands::value_operand))]
 pub fn value_in(operand: &[u8]) -> Result<Value<'_>, Kind>
-    ensures { result_map_both said (λ kind. kind) result ≡ value_at operand.now }
+    ensures { result_map_both said (λ kind. kind) result ≡ value_operand operand.now }
 {
-    if is_name(operand) {
+    if is_symbol(operand) {
         return Ok(Value::Label(operand));
     }
     match number_in(operand) {

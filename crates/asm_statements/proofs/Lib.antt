@@ -3,3 +3,4 @@ pub mod Boths
 pub mod Faults
 pub mod Counts
 pub mod Commas
+pub mod Mnemonics

@@ -6,11 +6,11 @@ use Rattle.rv_decode.specs.declared.instruction.BranchOp.{BranchOp}
 use Rattle.rv_decode.specs.declared.instruction.LoadOp.{LoadOp}
 use Rattle.rv_decode.specs.declared.instruction.StoreOp.{StoreOp}
 use Rattle.rv_decode.specs.declared.instruction.ImmOp.{ImmOp}
-use Rattle.rv_decode.specs.Words.{word_of, in_range, is_imm12, is_branch_offset, is_jump_offset}
+use Rattle.rv_decode.specs.Words.{word_of, fields_fit, is_imm12, is_branch_offset, is_jump_offset}
 use Rattle.asm_lines.specs.declared.kinds.Kind.TheVariants.{Range}
 use Rattle.asm_statements.specs.Orders.{coded}
 
-no_word : (i : Instr) → in_range i ≡ false → coded i ≡ Err Range
+no_word : (i : Instr) → fields_fit i ≡ false → coded i ≡ Err Range
 unfolding coded word_of
 no_word i h = rw h refl
 

@@ -1,21 +1,20 @@
 -- The first words of statements.
 use Rattle.std.specs.Prelude.{ℕ, pos, if◌then◌else◌, List, [], ◌∷◌, codes, Option, Some, None}
+use Rattle.std.specs.List.{find}
 use Rattle.std.specs.Option.{option_map, option_or}
 use Rattle.std.specs.Str.{bytes_eq}
 use Rattle.rv_decode.specs.declared.instruction.Instr.{Instr}
 use Rattle.rv_decode.specs.declared.instruction.Instr.TheVariants as instr
 use Rattle.rv_decode.specs.declared.instruction.BranchOp.{BranchOp}
-use Rattle.rv_decode.specs.declared.instruction.BranchOp.TheVariants.{Beq, Bne, Blt, Bge, Bltu, Bgeu}
+use Rattle.rv_decode.specs.declared.instruction.BranchOp.TheVariants.{Beq, Bne}
 use Rattle.rv_decode.specs.declared.instruction.LoadOp.{LoadOp}
-use Rattle.rv_decode.specs.declared.instruction.LoadOp.TheVariants.{Lb, Lh, Lw, Lbu, Lhu}
 use Rattle.rv_decode.specs.declared.instruction.StoreOp.{StoreOp}
-use Rattle.rv_decode.specs.declared.instruction.StoreOp.TheVariants.{Sb, Sh, Sw}
 use Rattle.rv_decode.specs.declared.instruction.ImmOp.{ImmOp}
-use Rattle.rv_decode.specs.declared.instruction.ImmOp.TheVariants.{Addi, Slti, Sltiu, Xori, Ori, Andi}
+use Rattle.rv_decode.specs.declared.instruction.ImmOp.TheVariants.{Addi}
 use Rattle.rv_decode.specs.declared.instruction.ShiftOp.{ShiftOp}
-use Rattle.rv_decode.specs.declared.instruction.ShiftOp.TheVariants.{Slli, Srli, Srai}
 use Rattle.rv_decode.specs.declared.instruction.RegOp.{RegOp}
-use Rattle.rv_decode.specs.declared.instruction.RegOp.TheVariants.{Add, Sub, Sll, Slt, Sltu, Xor, Srl, Sra, Or, And}
+use Rattle.rv_decode.specs.declared.instruction.MulOp.{MulOp}
+use Rattle.rv_decode.specs.Names.{branch_name, load_name, store_name, imm_name, shift_name, reg_name, mul_name, branch_ops, load_ops, store_ops, imm_ops, shift_ops, reg_ops, mul_ops}
 use Rattle.asm_statements.specs.declared.forms.Cell.{Cell}
 use Rattle.asm_statements.specs.declared.forms.Cell.TheVariants.{Word, Byte}
 use Rattle.asm_statements.specs.declared.forms.Unary.{Unary}
@@ -27,33 +26,18 @@ use Rattle.asm_statements.specs.declared.forms.Ternary.TheVariants as ternary
 use Rattle.asm_statements.specs.declared.forms.Form.{Form}
 use Rattle.asm_statements.specs.declared.forms.Form.TheVariants as forms
 
--- what stands beside a name in a list
-abbrev pub named : {A : Type 0} → List (List ℕ × A) → List ℕ → Option A
-named [] word = None
-named ((name, value) ∷ rows) word = if bytes_eq word name then Some value else named rows word
+-- the operation of this list that has this name
+abbrev pub op_named : {A : Type 0} → (A → List ℕ) → List A → List ℕ → Option A
+op_named name ops word = find (λ op. bytes_eq word (name op)) ops
 
-abbrev pub branches : List (List ℕ × BranchOp)
-branches = (codes "beq", Beq) ∷ (codes "bne", Bne) ∷ (codes "blt", Blt) ∷ (codes "bge", Bge) ∷ (codes "bltu", Bltu) ∷ (codes "bgeu", Bgeu) ∷ []
+-- what stands beside a name in a list
+abbrev pub value_named : {A : Type 0} → List (List ℕ × A) → List ℕ → Option A
+value_named [] word = None
+value_named ((name, value) ∷ rows) word = if bytes_eq word name then Some value else value_named rows word
 
 -- a branch on one register and zero
 abbrev pub zero_branches : List (List ℕ × BranchOp)
 zero_branches = (codes "beqz", Beq) ∷ (codes "bnez", Bne) ∷ []
-
-abbrev pub loads : List (List ℕ × LoadOp)
-loads = (codes "lb", Lb) ∷ (codes "lh", Lh) ∷ (codes "lw", Lw) ∷ (codes "lbu", Lbu) ∷ (codes "lhu", Lhu) ∷ []
-
-abbrev pub stores : List (List ℕ × StoreOp)
-stores = (codes "sb", Sb) ∷ (codes "sh", Sh) ∷ (codes "sw", Sw) ∷ []
-
-abbrev pub imms : List (List ℕ × ImmOp)
-imms = (codes "addi", Addi) ∷ (codes "slti", Slti) ∷ (codes "sltiu", Sltiu) ∷ (codes "xori", Xori) ∷ (codes "ori", Ori) ∷ (codes "andi", Andi) ∷ []
-
-abbrev pub shifts : List (List ℕ × ShiftOp)
-shifts = (codes "slli", Slli) ∷ (codes "srli", Srli) ∷ (codes "srai", Srai) ∷ []
-
-abbrev pub regs : List (List ℕ × RegOp)
-regs = (codes "add", Add) ∷ (codes "sub", Sub) ∷ (codes "sll", Sll) ∷ (codes "slt", Slt) ∷ (codes "sltu", Sltu)
-    ∷ (codes "xor", Xor) ∷ (codes "srl", Srl) ∷ (codes "sra", Sra) ∷ (codes "or", Or) ∷ (codes "and", And) ∷ []
 
 -- the statements with no operands; `fence` is the full fence, 0ff0000f
 abbrev pub bares : List (List ℕ × Instr)
@@ -74,44 +58,48 @@ abbrev pub cells : List (List ℕ × Cell)
 cells = (codes ".word", Word) ∷ (codes ".byte", Byte) ∷ []
 
 unfoldable pub branch_named : List ℕ → Option BranchOp
-branch_named word = named branches word
+branch_named word = op_named branch_name branch_ops word
 
 unfoldable pub zero_branch_named : List ℕ → Option BranchOp
-zero_branch_named word = named zero_branches word
+zero_branch_named word = value_named zero_branches word
 
 unfoldable pub load_named : List ℕ → Option LoadOp
-load_named word = named loads word
+load_named word = op_named load_name load_ops word
 
 unfoldable pub store_named : List ℕ → Option StoreOp
-store_named word = named stores word
+store_named word = op_named store_name store_ops word
 
 unfoldable pub imm_named : List ℕ → Option ImmOp
-imm_named word = named imms word
+imm_named word = op_named imm_name imm_ops word
 
 unfoldable pub shift_named : List ℕ → Option ShiftOp
-shift_named word = named shifts word
+shift_named word = op_named shift_name shift_ops word
 
 unfoldable pub reg_named : List ℕ → Option RegOp
-reg_named word = named regs word
+reg_named word = op_named reg_name reg_ops word
+
+unfoldable pub mul_named : List ℕ → Option MulOp
+mul_named word = op_named mul_name mul_ops word
 
 unfoldable pub bare_named : List ℕ → Option Instr
-bare_named word = named bares word
+bare_named word = value_named bares word
 
 unfoldable pub unary_named : List ℕ → Option Unary
-unary_named word = named unaries word
+unary_named word = value_named unaries word
 
 unfoldable pub binary_named : List ℕ → Option Binary
-binary_named word = named binaries word
+binary_named word = value_named binaries word
 
 unfoldable pub cell_named : List ℕ → Option Cell
-cell_named word = named cells word
+cell_named word = value_named cells word
 
 unfoldable pub ternary_of : List ℕ → Option Ternary
 ternary_of word =
     option_or (option_map ternary.Imm (imm_named word))
     (option_or (option_map ternary.Branch (branch_named word))
     (option_or (option_map ternary.Reg (reg_named word))
-    (option_map ternary.Shift (shift_named word))))
+    (option_or (option_map ternary.Shift (shift_named word))
+    (option_map ternary.Mul (mul_named word)))))
 
 unfoldable pub binary_of : List ℕ → Option Binary
 binary_of word =
@@ -121,8 +109,8 @@ binary_of word =
     (binary_named word)))
 
 -- the form of the statement that has this first word
-unfoldable pub form_of : List ℕ → Option Form
-form_of word =
+unfoldable pub statement_form : List ℕ → Option Form
+statement_form word =
     option_or (option_map forms.Ternary (ternary_of word))
     (option_or (option_map forms.Binary (binary_of word))
     (option_or (option_map forms.Unary (unary_named word))

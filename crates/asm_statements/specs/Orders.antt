@@ -11,9 +11,9 @@ use Rattle.rv_decode.specs.Words.{word_of, is_from, is_imm12}
 use Rattle.asm_lines.specs.declared.kinds.Kind.{Kind}
 use Rattle.asm_lines.specs.declared.kinds.Kind.TheVariants as kinds
 use Rattle.asm_lines.specs.Kinds.{first_kind, both}
-use Rattle.asm_lines.specs.Operands.{Said, Label, Number, operands_of, parts_of, register_at, number_at, indexed_at, label_at, value_at}
-use Rattle.asm_lines.specs.Cuts.{Words}
-use Rattle.asm_statements.specs.Forms.{form_of}
+use Rattle.asm_lines.specs.Operands.{Said, Label, Number, operands_of, operand_parts, register_operand, number_operand, indexed_operand, label_operand, value_operand}
+use Rattle.asm_lines.specs.Cuts.{StatementWords}
+use Rattle.asm_statements.specs.Forms.{statement_form}
 use Rattle.asm_statements.specs.declared.forms.Cell.{Cell}
 use Rattle.asm_statements.specs.declared.forms.Cell.TheVariants.{Word, Byte}
 use Rattle.asm_statements.specs.declared.forms.Unary.{Unary}
@@ -26,11 +26,7 @@ use Rattle.asm_statements.specs.declared.forms.Form.{Form}
 use Rattle.asm_statements.specs.declared.forms.Form.TheVariants as forms
 use Rattle.asm_statements.specs.declared.statements.Statement.{Statement}
 use Rattle.asm_statements.specs.declared.statements.Statement.TheVariants as statements
-
-infixl 10 ◌>>=◌
-abbrev pub ◌>>=◌ : {A B : Type 0} → Result A Kind → (A → Result B Kind) → Result B Kind
-(Ok a) >>= f = f a
-(Err kind) >>= f = Err kind
+use Rattle.sequencing.specs.Results.{◌>>=◌}
 
 -- what a statement orders; addresses of labels are filled in later
 pub data Order : Type 0 where
@@ -84,27 +80,27 @@ branch op rs1 rs2 (Number offset) = coded (instr.Branch op rs1 rs2 offset)
 -- a statement of one operand
 unfoldable pub with_one : Unary → List ℕ → Result Order Kind
 with_one unary.J a = do
-  target ← value_at a
+  target ← value_operand a
   jump 0 target
 with_one unary.Jr a = do
-  rs ← register_at a
+  rs ← register_operand a
   Ok (Plain (instr.Jalr 0 rs (pos 0)))
 with_one unary.Segment a = do
-  number ← number_at a
+  number ← number_operand a
   address ← below (2 ^ 32) number
   Ok (Begin address)
 with_one unary.Entry a = do
-  name ← label_at a
+  name ← label_operand a
   Ok (Entry name)
 with_one unary.Space a = do
-  number ← number_at a
+  number ← number_operand a
   count ← below 1048577 number
   Ok (Zeros count)
 
 -- a register and a field of 20 bits
 abbrev pub register_and_upper : List ℕ → List ℕ → Result (ℕ × ℕ) Kind
 register_and_upper a b = do
-  said ← both (register_at a) (number_at b)
+  said ← both (register_operand a) (number_operand b)
   imm ← below (2 ^ 20) said.1
   Ok (said.0, imm)
 
@@ -117,45 +113,48 @@ with_two binary.Auipc a b = do
   said ← register_and_upper a b
   Ok (Plain (instr.Auipc said.0 said.1))
 with_two binary.Jal a b = do
-  said ← both (register_at a) (value_at b)
+  said ← both (register_operand a) (value_operand b)
   jump said.0 said.1
 with_two binary.Jalr a b = do
-  said ← both (register_at a) (indexed_at b)
+  said ← both (register_operand a) (indexed_operand b)
   coded (instr.Jalr said.0 said.1.1 said.1.0)
 with_two (binary.Load op) a b = do
-  said ← both (register_at a) (indexed_at b)
+  said ← both (register_operand a) (indexed_operand b)
   coded (instr.Load op said.0 said.1.1 said.1.0)
 with_two (binary.Store op) a b = do
-  said ← both (register_at a) (indexed_at b)
+  said ← both (register_operand a) (indexed_operand b)
   coded (instr.Store op said.1.1 said.0 said.1.0)
 with_two binary.Mv a b = do
-  said ← both (register_at a) (register_at b)
+  said ← both (register_operand a) (register_operand b)
   Ok (Plain (instr.Imm Addi said.0 said.1 (pos 0)))
 with_two binary.Li a b = do
-  said ← both (register_at a) (number_at b)
+  said ← both (register_operand a) (number_operand b)
   Ok (load said.0 said.1)
 with_two binary.La a b = do
-  said ← both (register_at a) (label_at b)
+  said ← both (register_operand a) (label_operand b)
   Ok (LoadAddress said.0 said.1)
 with_two (binary.BranchZero op) a b = do
-  said ← both (register_at a) (value_at b)
+  said ← both (register_operand a) (value_operand b)
   branch op said.0 0 said.1
 
 -- a statement of three
 unfoldable pub with_three : Ternary → List ℕ → List ℕ → List ℕ → Result Order Kind
 with_three (ternary.Branch op) a b c = do
-  said ← both (both (register_at a) (register_at b)) (value_at c)
+  said ← both (both (register_operand a) (register_operand b)) (value_operand c)
   branch op said.0.0 said.0.1 said.1
 with_three (ternary.Imm op) a b c = do
-  said ← both (both (register_at a) (register_at b)) (number_at c)
+  said ← both (both (register_operand a) (register_operand b)) (number_operand c)
   coded (instr.Imm op said.0.0 said.0.1 said.1)
 with_three (ternary.Shift op) a b c = do
-  said ← both (both (register_at a) (register_at b)) (number_at c)
+  said ← both (both (register_operand a) (register_operand b)) (number_operand c)
   amount ← below 32 said.1
   Ok (Plain (instr.Shift op said.0.0 said.0.1 amount))
 with_three (ternary.Reg op) a b c = do
-  said ← both (both (register_at a) (register_at b)) (register_at c)
+  said ← both (both (register_operand a) (register_operand b)) (register_operand c)
   Ok (Plain (instr.Reg op said.0.0 said.0.1 said.1))
+with_three (ternary.Mul op) a b c = do
+  said ← both (both (register_operand a) (register_operand b)) (register_operand c)
+  Ok (Plain (instr.Mul op said.0.0 said.0.1 said.1))
 
 -- a statement has just as many operands as its form asks for
 abbrev pub if_none : Instr → List (List ℕ) → Result Order Kind
@@ -175,15 +174,15 @@ if_three form (a ∷ b ∷ c ∷ []) = with_three form a b c
 if_three form _ = Err kinds.Operands
 
 -- what a `.byte` takes: -128 to 255
-unfoldable pub byte_at : List ℕ → Result ℤ Kind
-byte_at operand = do
-  number ← number_at operand
+unfoldable pub byte_operand : List ℕ → Result ℤ Kind
+byte_operand operand = do
+  number ← number_operand operand
   if is_from (neg_ℤ (pos 128)) (pos 255) number then Ok number else Err kinds.Range
 
 -- the fault of one operand of `.word` or `.byte`
 abbrev pub cell_fault : Cell → List ℕ → Option Kind
-cell_fault Word operand = result_err (value_at operand)
-cell_fault Byte operand = result_err (byte_at operand)
+cell_fault Word operand = result_err (value_operand operand)
+cell_fault Byte operand = result_err (byte_operand operand)
 
 abbrev pub sooner : Option Kind → Option Kind → Option Kind
 sooner None b = b
@@ -191,9 +190,9 @@ sooner (Some j) None = Some j
 sooner (Some j) (Some k) = Some (first_kind j k)
 
 -- the first kind of fault that an operand has
-abbrev pub first_fault : Cell → List (List ℕ) → Option Kind
-first_fault cell [] = None
-first_fault cell (operand ∷ operands) = sooner (cell_fault cell operand) (first_fault cell operands)
+abbrev pub first_cell_fault : Cell → List (List ℕ) → Option Kind
+first_cell_fault cell [] = None
+first_cell_fault cell (operand ∷ operands) = sooner (cell_fault cell operand) (first_cell_fault cell operands)
 
 abbrev pub cells_unless : Cell → List ℕ → Option Kind → Result Order Kind
 cells_unless cell text None = Ok (Cells cell text)
@@ -201,7 +200,7 @@ cells_unless cell text (Some kind) = Err kind
 
 -- `.word` and `.byte` take one operand or more
 unfoldable pub with_cells : Cell → List ℕ → Result Order Kind
-with_cells cell text = if length text == 0 then Err kinds.Operands else cells_unless cell text (first_fault cell (parts_of text))
+with_cells cell text = if length text == 0 then Err kinds.Operands else cells_unless cell text (first_cell_fault cell (operand_parts text))
 
 -- what a statement orders, by its form and the text of its operands
 abbrev pub ordered : Form → List ℕ → Result Order Kind
@@ -216,5 +215,5 @@ order_unless None text = Err kinds.Mnemonic
 order_unless (Some form) text = ordered form text
 
 -- what a statement orders, by its first word and the text of its operands
-unfoldable pub order_in : Words → Result Order Kind
-order_in words = order_unless (form_of words.mnemonic) words.operands
+unfoldable pub order_in : StatementWords → Result Order Kind
+order_in words = order_unless (statement_form words.mnemonic) words.operands

@@ -1,6 +1,6 @@
 -- How many bytes a statement makes.
 use Rattle.std.specs.Prelude.{ℕ, ◌*◌, Bool, true, false, length}
-use Rattle.asm_lines.specs.Operands.{parts_of}
+use Rattle.asm_lines.specs.Operands.{operand_parts}
 use Rattle.asm_statements.specs.declared.forms.Cell.{Cell}
 use Rattle.asm_statements.specs.declared.forms.Cell.TheVariants.{Word, Byte}
 use Rattle.asm_statements.specs.Orders.{Order, Plain, JumpTo, BranchTo, LoadWide, LoadAddress, Cells, Zeros, Begin, Entry}
@@ -15,7 +15,7 @@ size_of (JumpTo rd label) = 4
 size_of (BranchTo op rs1 rs2 label) = 4
 size_of (LoadWide rd value) = 8
 size_of (LoadAddress rd label) = 8
-size_of (Cells cell text) = cell_size cell * length (parts_of text)
+size_of (Cells cell text) = cell_size cell * length (operand_parts text)
 size_of (Zeros count) = count
 size_of (Begin address) = 0
 size_of (Entry label) = 0

@@ -2,8 +2,8 @@
 
 ghost use Rattle.std.specs.Prelude.{◌≡◌, ◌*◌, ◌+◌, ◌≤◌, ◌<◌, length};
 ghost use Rattle.std.specs.Result.{result_map_both};
-ghost use Rattle.asm_lines.specs.Operands.{parts_of};
-ghost use Rattle.asm_statements.specs.Orders.{byte_at, cell_fault, sooner, first_fault, with_cells, order_of};
+ghost use Rattle.asm_lines.specs.Operands.{operand_parts};
+ghost use Rattle.asm_statements.specs.Orders.{byte_operand, cell_fault, sooner, first_cell_fault, with_cells, order_of};
 ghost use Rattle.asm_statements.specs.Sizes.{cell_size};
 
 use crate::forms::Cell;
@@ -11,9 +11,9 @@ use crate::statements::Statement;
 use asm_lines::{Kind, first_kind, next_part, number_in, value_in};
 
 /// What an operand of `.byte` says: -128 to 255.
-#[tactic(auto, unfolding(crate::specs::Orders::byte_at))]
+#[tactic(auto, unfolding(crate::specs::Orders::byte_operand))]
 pub fn byte_in(operand: &[u8]) -> Result<i64, Kind>
-    ensures { result ≡ byte_at operand.now }
+    ensures { result ≡ byte_operand operand.now }
 {
     match number_in(operand) {
         Ok(number) => {
@@ -60,8 +60,8 @@ fn sooner(a: Option<Kind>, b: Option<Kind>) -> Option<Kind>
 }
 
 #[tactic(auto, using(crate::proofs::Faults::first_fault_more, crate::proofs::Faults::first_fault_last))]
-fn first_fault(cell: Cell, text: &[u8]) -> Option<Kind>
-    ensures { result ≡ first_fault cell (parts_of text.now) }
+fn first_cell_fault(cell: Cell, text: &[u8]) -> Option<Kind>
+    ensures { result ≡ first_cell_fault cell (operand_parts text.now) }
 {
     let mut fault = None;
     let mut rest = text;
@@ -83,7 +83,7 @@ pub fn with_cells(cell: Cell, text: &[u8]) -> Result<Statement<'_>, Kind>
     if text.is_empty() {
         return Err(Kind::Operands);
     }
-    match first_fault(cell, text) {
+    match first_cell_fault(cell, text) {
         None => Ok(Statement::Cells(cell, text)),
         Some(kind) => Err(kind),
     }

@@ -1,9 +1,9 @@
 // The first words of statements.
 
 ghost use Rattle.std.specs.Prelude.{◌≡◌};
-ghost use Rattle.asm_statements.specs.Forms.{branch_named, zero_branch_named, load_named, store_named, imm_named, shift_named, reg_named, bare_named, unary_named, binary_named, cell_named, ternary_of, binary_of, form_of};
+ghost use Rattle.asm_statements.specs.Forms.{branch_named, zero_branch_named, load_named, store_named, imm_named, shift_named, reg_named, mul_named, bare_named, unary_named, binary_named, cell_named, ternary_of, binary_of, statement_form};
 
-use rv_decode::{BranchOp, ImmOp, Instr, LoadOp, RegOp, ShiftOp, StoreOp};
+use rv_decode::{BranchOp, ImmOp, Instr, LoadOp, MulOp, RegOp, ShiftOp, StoreOp};
 
 /// What `.word` and `.byte` put one after the other.
 #[derive(Clone, Copy, Debug, PartialEq, Eq)]
@@ -47,6 +47,7 @@ pub enum Ternary {
     Imm(ImmOp),
     Shift(ShiftOp),
     Reg(RegOp),
+    Mul(MulOp),
 }
 
 /// The statements, by the number of their operands.
@@ -215,6 +216,37 @@ fn reg_named(word: &[u8]) -> Option<RegOp>
     None
 }
 
+#[tactic(auto, unfolding(crate::specs::Forms::mul_named))]
+fn mul_named(word: &[u8]) -> Option<MulOp>
+    ensures { result ≡ mul_named word.now }
+{
+    if word == b"mul".as_slice() {
+        return Some(MulOp::Mul);
+    }
+    if word == b"mulh".as_slice() {
+        return Some(MulOp::Mulh);
+    }
+    if word == b"mulhsu".as_slice() {
+        return Some(MulOp::Mulhsu);
+    }
+    if word == b"mulhu".as_slice() {
+        return Some(MulOp::Mulhu);
+    }
+    if word == b"div".as_slice() {
+        return Some(MulOp::Div);
+    }
+    if word == b"divu".as_slice() {
+        return Some(MulOp::Divu);
+    }
+    if word == b"rem".as_slice() {
+        return Some(MulOp::Rem);
+    }
+    if word == b"remu".as_slice() {
+        return Some(MulOp::Remu);
+    }
+    None
+}
+
 #[tactic(auto, unfolding(crate::specs::Forms::bare_named))]
 fn bare_named(word: &[u8]) -> Option<Instr>
     ensures { result ≡ bare_named word.now }
@@ -326,8 +358,11 @@ fn ternary_of(word: &[u8]) -> Option<Ternary>
     if let Some(op) = reg_named(word) {
         return Some(Ternary::Reg(op));
     }
-    match shift_named(word) {
-        Some(op) => Some(Ternary::Shift(op)),
+    if let Some(op) = shift_named(word) {
+        return Some(Ternary::Shift(op));
+    }
+    match mul_named(word) {
+        Some(op) => Some(Ternary::Mul(op)),
         None => None,
     }
 }
@@ -349,9 +384,9 @@ fn binary_of(word: &[u8]) -> Option<Binary>
 }
 
 /// The form of the statement that has this first word; `None` where there is none.
-#[tactic(auto, unfolding(crate::specs::Forms::form_of))]
+#[tactic(auto, unfolding(crate::specs::Forms::statement_form))]
 pub fn form_in(word: &[u8]) -> Option<Form>
-    ensures { result ≡ form_of word.now }
+    ensures { result ≡ statement_form word.now }
 {
     if let Some(form) = ternary_of(word) {
         return Some(Form::Ternary(form));

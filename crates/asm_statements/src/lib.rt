@@ -7,6 +7,7 @@
 mod cells;
 mod fields;
 mod forms;
+mod laws;
 mod readers;
 mod sizes;
 mod statements;
@@ -14,6 +15,7 @@ mod statements;
 pub use cells::byte_in;
 pub use fields::{branch_word, byte_bits, jal_word, word_bits};
 pub use forms::{Binary, Cell, Form, Ternary, Unary};
+pub use laws::mnemonics_are_read;
 pub use readers::statement_in;
 pub use sizes::{MOST_BYTES, is_instruction, size_of};
 pub use statements::Statement;

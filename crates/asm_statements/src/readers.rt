@@ -4,10 +4,10 @@
 ghost use Rattle.std.specs.Prelude.{◌≡◌, ℕ, ◌∷◌, [], List};
 ghost use Rattle.std.specs.Option.{option_map};
 ghost use Rattle.std.specs.Result.{result_map_both};
-ghost use Rattle.asm_lines.specs.Operands.{operands_of, said, register_at, value_at, number_at, label_at, indexed_at};
-ghost use Rattle.asm_lines.specs.Cuts.{words_of};
+ghost use Rattle.asm_lines.specs.Operands.{operands_of, said, register_operand, value_operand, number_operand, label_operand, indexed_operand};
+ghost use Rattle.asm_lines.specs.Cuts.{statement_words};
 ghost use Rattle.asm_lines.specs.Kinds as kinds_spec;
-ghost use Rattle.asm_statements.specs.Forms.{form_of};
+ghost use Rattle.asm_statements.specs.Forms.{statement_form};
 ghost use Rattle.asm_statements.specs.Orders.{order_of, if_none, if_one, if_two, if_three, with_one, with_two, with_three, ordered, order_in, register_and_upper, jump, branch};
 
 use crate::cells::with_cells;
@@ -20,14 +20,14 @@ use asm_lines::{
     Kind, Parts, RawStatement, Value, both, indexed_in, label_in, number_in, parts_in, register_in,
     value_in,
 };
-use rv_decode::{BranchOp, ImmOp, Instr, LoadOp, RegOp, ShiftOp, StoreOp};
+use rv_decode::{BranchOp, ImmOp, Instr, LoadOp, MulOp, RegOp, ShiftOp, StoreOp};
 
 type Read<'a> = Result<Statement<'a>, Kind>;
 
 // A register and a target.
 #[tactic(auto, using(crate::proofs::Boths::both_seen))]
 fn register_and_value<'a>(a: &[u8], b: &'a [u8]) -> Result<(u32, Value<'a>), Kind>
-    ensures { result_map_both (λ p. (p.0, said p.1)) (λ kind. kind) result ≡ kinds_spec.both (register_at a.now) (value_at b.now) }
+    ensures { result_map_both (λ p. (p.0, said p.1)) (λ kind. kind) result ≡ kinds_spec.both (register_operand a.now) (value_operand b.now) }
 {
     both(register_in(a), value_in(b))
 }
@@ -178,7 +178,7 @@ fn li<'a>(a: &[u8], b: &[u8]) -> Read<'a>
 // A register and a label.
 #[tactic(auto, using(crate::proofs::Boths::both_seen))]
 fn register_and_label<'a>(a: &[u8], b: &'a [u8]) -> Result<(u32, &'a [u8]), Kind>
-    ensures { result_map_both (λ p. (p.0, p.1.now)) (λ kind. kind) result ≡ kinds_spec.both (register_at a.now) (label_at b.now) }
+    ensures { result_map_both (λ p. (p.0, p.1.now)) (λ kind. kind) result ≡ kinds_spec.both (register_operand a.now) (label_operand b.now) }
 {
     both(register_in(a), label_in(b))
 }
@@ -224,7 +224,7 @@ fn with_two<'a>(form: Binary, a: &'a [u8], b: &'a [u8]) -> Read<'a>
 #[tactic(auto, using(crate::proofs::Boths::both_seen))]
 fn registers_and_value<'a>(a: &[u8], b: &[u8], c: &'a [u8]) -> Result<((u32, u32), Value<'a>), Kind>
     ensures { result_map_both (λ p. (p.0, said p.1)) (λ kind. kind) result
-        ≡ kinds_spec.both (kinds_spec.both (register_at a.now) (register_at b.now)) (value_at c.now) }
+        ≡ kinds_spec.both (kinds_spec.both (register_operand a.now) (register_operand b.now)) (value_operand c.now) }
 {
     both(both(register_in(a), register_in(b)), value_in(c))
 }
@@ -264,6 +264,14 @@ fn registers<'a>(op: RegOp, a: &[u8], b: &[u8], c: &[u8]) -> Read<'a>
     Ok(Statement::Plain(Instr::Reg { op, rd, rs1, rs2 }))
 }
 
+#[tactic(auto, unfolding(crate::specs::Orders::with_three))]
+fn multiply<'a>(op: MulOp, a: &[u8], b: &[u8], c: &[u8]) -> Read<'a>
+    ensures { result_map_both order_of (λ kind. kind) result ≡ with_three (Ternary.Mul op) a.now b.now c.now }
+{
+    let ((rd, rs1), rs2) = both(both(register_in(a), register_in(b)), register_in(c))?;
+    Ok(Statement::Plain(Instr::Mul { op, rd, rs1, rs2 }))
+}
+
 fn with_three<'a>(form: Ternary, a: &[u8], b: &[u8], c: &'a [u8]) -> Read<'a>
     ensures { result_map_both order_of (λ kind. kind) result ≡ with_three form a.now b.now c.now }
 {
@@ -272,6 +280,7 @@ fn with_three<'a>(form: Ternary, a: &[u8], b: &[u8], c: &'a [u8]) -> Read<'a>
         Ternary::Imm(op) => with_imm(op, a, b, c),
         Ternary::Shift(op) => shift(op, a, b, c),
         Ternary::Reg(op) => registers(op, a, b, c),
+        Ternary::Mul(op) => multiply(op, a, b, c),
     }
 }
 
@@ -331,7 +340,7 @@ fn ordered(form: Form, text: &[u8]) -> Read<'_>
 /// whichever operand has it. Numbers of labels are not known yet, and not tried.
 #[tactic(auto, unfolding(crate::specs::Orders::order_in))]
 pub fn statement_in<'a>(raw: &RawStatement<'a>) -> Result<Statement<'a>, Kind>
-    ensures { result_map_both order_of (λ kind. kind) result ≡ order_in (words_of raw.now) }
+    ensures { result_map_both order_of (λ kind. kind) result ≡ order_in (statement_words raw.now) }
 {
     match form_in(raw.mnemonic) {
         Some(form) => ordered(form, raw.operands),

@@ -1,7 +1,7 @@
 // How many bytes a statement makes.
 
 ghost use Rattle.std.specs.Prelude.{◌≡◌, ◌<◌, ◌≤◌, ◌*◌, length, MatchOption, IfSome};
-ghost use Rattle.asm_lines.specs.Operands.{parts_of};
+ghost use Rattle.asm_lines.specs.Operands.{operand_parts};
 ghost use Rattle.asm_statements.specs.Orders.{order_of};
 ghost use Rattle.asm_statements.specs.Sizes.{size_of, is_instruction, cell_size};
 
@@ -14,14 +14,14 @@ pub const MOST_BYTES: u32 = 1_048_576;
 // How many operands a text has.
 #[tactic(auto, using(crate::proofs::Commas::parts_counted))]
 fn part_count(text: &[u8]) -> usize
-    ensures { result ≡ length (parts_of text.now) }
+    ensures { result ≡ length (operand_parts text.now) }
 {
     let commas = text.iter().filter(|byte| **byte == b',').count();
     commas + 1
 }
 
 fn words_size(text: &[u8]) -> Option<u32>
-    ensures value { MatchOption result (1048576 < cell_size Cell.Word * length (parts_of text.now)) (λ size. size ≡ cell_size Cell.Word * length (parts_of text.now)) }
+    ensures value { MatchOption result (1048576 < cell_size Cell.Word * length (operand_parts text.now)) (λ size. size ≡ cell_size Cell.Word * length (operand_parts text.now)) }
     ensures within { IfSome result (λ size. size ≤ 1048576) }
 {
     let count = part_count(text);
@@ -32,7 +32,7 @@ fn words_size(text: &[u8]) -> Option<u32>
 }
 
 fn bytes_size(text: &[u8]) -> Option<u32>
-    ensures value { MatchOption result (1048576 < cell_size Cell.Byte * length (parts_of text.now)) (λ size. size ≡ cell_size Cell.Byte * length (parts_of text.now)) }
+    ensures value { MatchOption result (1048576 < cell_size Cell.Byte * length (operand_parts text.now)) (λ size. size ≡ cell_size Cell.Byte * length (operand_parts text.now)) }
     ensures within { IfSome result (λ size. size ≤ 1048576) }
 {
     let count = part_count(text);

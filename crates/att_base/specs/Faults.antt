@@ -5,6 +5,6 @@ use Rattle.std.specs.Prelude.{ℕ, ◌+◌, ◌-◌, ◌^◌, ◌≤◌, min}
 abbrev pub one_more : ℕ → ℕ
 one_more n = min (n + 1) (2 ^ 64 - 1)
 
--- the count has risen by at least one, or stands at the end of its type
-abbrev pub Rose : ℕ → ℕ → Type 0
-Rose before now = one_more before ≤ now
+-- the count has risen, or stands at the end of its type
+abbrev pub FaultCountRose : ℕ → ℕ → Type 0
+FaultCountRose before now = (before ≤ now) × (one_more before ≤ now)

@@ -19,7 +19,10 @@ mod words;
 
 pub use by_name::{Files, names_are_apart, read_whole, write_whole};
 pub use faults::{DeviceFault, Failed, FileFault, ReadFault};
-pub use gates::{Gate, Kind, NoGate, Spot};
+pub use gates::{
+    Gate, MADE_COPY, MADE_END, MADE_FETCH, MADE_LOAD, MADE_RELEASE, MADE_START, MADE_STORE,
+    MADE_TICK, NoGate, Spot,
+};
 pub use mem_files::{MemFiles, NamedFile};
 pub use memory::{MemSink, MemSource};
 pub use standard::{StdErr, StdSink, StdSource};

@@ -1,8 +1,7 @@
 // Files in memory, which fail at chosen calls.
 ghost use Rattle.std.specs.Prelude.{◌≡◌, ℕ, ◌≤◌, ◌<◌, ◌↔◌, List, [], ◌++◌, length, None, Some, Contains, IfOk, OnOk, OnErr, IsErrOf, option_copied, string_bytes};
-ghost use Rattle.att_base.specs.Faults.{Rose};
-ghost use Rattle.att_base.specs.Files.{Held, IsName, put_under, add_under, AddsFront, whole_file, Reads};
-ghost use Rattle.att_base.specs.FilesInMemory.{Named, held_in, place_of, put_file, add_file, new_files, after_read, after_clear, after_append};
+ghost use Rattle.att_base.specs.Files.{Contents, IsName, put_under, add_under, AddsFront, whole_file, ReadsWhole, CountsRead, CountsWrite};
+ghost use Rattle.att_base.specs.FilesInMemory.{held_in, file_index, put_file, add_file, new_files, after_read, after_clear, after_append};
 
 use crate::by_name::Files;
 use crate::calls::Calls;
@@ -19,9 +18,9 @@ pub struct NamedFile {
 
 impl Model for NamedFile {
     ghost use Rattle.std.specs.Prelude.{string_bytes};
-    ghost use Rattle.att_base.specs.FilesInMemory.{Named};
+    ghost use Rattle.att_base.specs.Files.{NamedBytes};
 
-    ghost Value = { Named };
+    ghost Value = { NamedBytes };
 
     ghost view = { λ f. record { name = string_bytes f.name; bytes = f.bytes.items } };
 }
@@ -72,8 +71,8 @@ impl NamedFile {
 }
 
 // The place of the first file of this name, or the number of files where none has it.
-fn place_of(files: &[NamedFile], name: &str) -> usize
-    ensures { result ≡ place_of files.now name.now }
+fn file_index(files: &[NamedFile], name: &str) -> usize
+    ensures { result ≡ file_index files.now name.now }
 {
     for (i, file) in files.iter().enumerate() {
         if file.name() == name {
@@ -88,7 +87,7 @@ fn clear_file(alloc: Global, files: &mut Vec<NamedFile>, name: &str) -> Result<(
     ensures ok { OnOk result (files.new.items ≡ put_file files.old.items name.now []) }
     ensures err { OnErr result (files.new.items ≡ files.old.items) }
 {
-    let place = place_of(files, name);
+    let place = file_index(files, name);
     if place < files.len() {
         files[place].clear();
         return Ok(());
@@ -108,7 +107,7 @@ fn append_file(
     ensures ok { OnOk result (files.new.items ≡ add_file files.old.items name.now piece.now) }
     ensures err { OnErr result (files.new.items ≡ files.old.items) }
 {
-    let place = place_of(files, name);
+    let place = file_index(files, name);
     if place < files.len() {
         files[place].append(piece)?;
         return Ok(());
@@ -163,7 +162,7 @@ impl MemFiles {
     pub fn bytes_of(&self, name: &str) -> Option<&[u8]>
         ensures { option_copied result ≡ held_in self.now.files name.now }
     {
-        let place = place_of(&self.files, name);
+        let place = file_index(&self.files, name);
         if place < self.files.len() {
             return Some(self.files[place].bytes());
         }
@@ -172,20 +171,16 @@ impl MemFiles {
 }
 
 impl Files for MemFiles {
-    ghost held = { λ s. Some (held_in s.files) };
-
-    ghost faults = { λ s. s.faults };
+    // Which names were asked for isn't told: that would take memory.
+    ghost shows = { λ s. record { held = Some (held_in s.files); asked = None; faults = s.faults } };
 
     /// The whole file. It fails exactly where the call's number is listed.
     fn read(&mut self, alloc: Global, name: &str, limit: u64) -> Result<Vec<u8>, ReadFault>
-        ensures reads { (known : Held) → Some (held_in self.old.files) ≡ Some known → Reads (λ v. v.items) (whole_file limit (known name.now)) result }
+        ensures reads { (known : Contents) → Some (held_in self.old.files) ≡ Some known → ReadsWhole (λ v. v.items) (whole_file limit (known name.now)) result }
         ensures within { IfOk result (λ v. length v.items ≤ limit) }
         ensures same { Some (held_in self.new.files) ≡ Some (held_in self.old.files) }
-        ensures failed { IsErrOf result ReadFault.Failed → Rose self.old.faults self.new.faults }
-        ensures missing { IsErrOf result ReadFault.Missing → Some (held_in self.old.files) ≡ None → Rose self.old.faults self.new.faults }
-        ensures quiet { IsErrOf result ReadFault.Missing → (known : Held) → Some (held_in self.old.files) ≡ Some known → self.new.faults ≡ self.old.faults }
-        ensures later { self.old.faults ≤ self.new.faults }
-        ensures answer { Reads (λ v. v.items) (whole_file limit (held_in self.old.files name.now)) result }
+        ensures counted { CountsRead result (Some (held_in self.old.files)) self.old.faults self.new.faults }
+        ensures answer { ReadsWhole (λ v. v.items) (whole_file limit (held_in self.old.files name.now)) result }
         ensures listed { IsErrOf result ReadFault.Failed ↔ Contains self.old.fails self.old.next }
         ensures leaves { self.new ≡ after_read self.old result }
     {
@@ -207,8 +202,7 @@ impl Files for MemFiles {
     fn clear(&mut self, _alloc: Global, name: &str) -> Result<(), FileFault>
         ensures ok { OnOk result (Some (held_in self.new.files) ≡ put_under (Some (held_in self.old.files)) name.now []) }
         ensures err { OnErr result (Some (held_in self.new.files) ≡ Some (held_in self.old.files)) }
-        ensures failed { IsErrOf result FileFault.Failed → Rose self.old.faults self.new.faults }
-        ensures later { self.old.faults ≤ self.new.faults }
+        ensures counted { CountsWrite result self.old.faults self.new.faults }
         ensures listed { IsErrOf result FileFault.Failed ↔ Contains self.old.fails self.old.next }
         ensures leaves { self.new ≡ after_clear self.old name.now result }
     {
@@ -228,8 +222,7 @@ impl Files for MemFiles {
         ensures ok { OnOk result (Some (held_in self.new.files) ≡ add_under (Some (held_in self.old.files)) name.now piece.now) }
         ensures err { OnErr result (AddsFront (Some (held_in self.old.files)) (Some (held_in self.new.files)) name.now piece.now) }
         ensures memory { IsErrOf result FileFault.Memory → Some (held_in self.new.files) ≡ Some (held_in self.old.files) }
-        ensures failed { IsErrOf result FileFault.Failed → Rose self.old.faults self.new.faults }
-        ensures later { self.old.faults ≤ self.new.faults }
+        ensures counted { CountsWrite result self.old.faults self.new.faults }
         ensures listed { IsErrOf result FileFault.Failed → Contains self.old.fails self.old.next }
         ensures unlisted { OnOk result (Contains self.old.fails self.old.next → ⊥) }
         ensures leaves { self.new ≡ after_append self.old name.now piece.now result }

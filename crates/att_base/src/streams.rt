@@ -1,10 +1,11 @@
 // What is read and written piece by piece.
 ghost use Rattle.std.specs.Prelude.{◌≡◌, ℕ, ◌+◌, ◌^◌, ◌<◌, ◌≤◌, List, ◌++◌, length, take, Option, None, IfOk, OnOk, OnErr, IsErrOf};
-ghost use Rattle.att_base.specs.Faults.{Rose};
+ghost use Rattle.att_base.specs.Faults.{FaultCountRose};
+ghost use Rattle.att_base.specs.Files.{CountsRead};
 ghost use Rattle.att_base.specs.Streams.{put_before, put_after, IsDrained, TakesAll, TakesTooMany, TakesFront, AppendsFront};
 
 use crate::faults::{Failed, ReadFault};
-use std::alloc::Global;
+use std::alloc::{AllocError, Global};
 
 /// Something that bytes are read from, as standard input.
 pub trait Source {
@@ -22,7 +23,8 @@ pub trait Source {
         ensures end { IfOk result (λ n. n ≡ 0 → 0 < length into.new → IsDrained (left self.old)) }
         ensures err { OnErr result (left self.new ≡ left self.old) }
         ensures later { faults self.old ≤ faults self.new }
-        ensures cause { OnErr result (Rose (faults self.old) (faults self.new)) };
+        ensures cause { OnErr result (FaultCountRose (faults self.old) (faults self.new)) }
+        ensures quiet { OnOk result (faults self.new ≡ faults self.old) };
 }
 
 /// Something that bytes are written to, as standard output.
@@ -41,7 +43,8 @@ pub trait Sink {
         ensures progress { IfOk result (λ n. 0 < length piece.now → 0 < n) }
         ensures err { OnErr result (held self.new ≡ held self.old) }
         ensures later { faults self.old ≤ faults self.new }
-        ensures cause { OnErr result (Rose (faults self.old) (faults self.new)) };
+        ensures cause { OnErr result (FaultCountRose (faults self.old) (faults self.new)) }
+        ensures quiet { OnOk result (faults self.new ≡ faults self.old) };
 }
 
 /// Appends the whole piece. After `Failed` a front of it was appended.
@@ -49,7 +52,8 @@ pub fn put_all<K: Sink>(sink: &mut K, piece: &[u8]) -> Result<(), Failed>
     ensures ok { OnOk result (K.held sink.new ≡ put_after (K.held sink.old) piece.now) }
     ensures err { OnErr result (AppendsFront (K.held sink.old) (K.held sink.new) piece.now) }
     ensures later { K.faults sink.old ≤ K.faults sink.new }
-    ensures cause { OnErr result (Rose (K.faults sink.old) (K.faults sink.new)) }
+    ensures cause { OnErr result (FaultCountRose (K.faults sink.old) (K.faults sink.new)) }
+    ensures quiet { OnOk result (K.faults sink.new ≡ K.faults sink.old) }
 {
     let mut at = 0;
     'writing: while at < piece.len() {
@@ -58,30 +62,38 @@ pub fn put_all<K: Sink>(sink: &mut K, piece: &[u8]) -> Result<(), Failed>
     Ok(())
 }
 
-/// The most bytes that `take_all` asks for in one call.
-const PIECE_LEN: usize = 4096;
+/// The most bytes that `take_all` asks for in one call: 64 KiB.
+const PIECE_LEN: usize = 65_536;
 
-/// Takes all that is left, if that is at most `limit` bytes.
-///
-/// `TooLong` comes after `limit + 1` bytes were taken. After `Failed` and `Memory` a front of what was left was
-/// taken. No more than `limit + 1` bytes are asked for in all.
-pub fn take_all<S: Source>(alloc: Global, source: &mut S, limit: u64) -> Result<Vec<u8>, ReadFault>
-    requires { limit + 1 < 2 ^ 64 }
+// Where the bytes of one call go, kept on the heap.
+fn piece_buffer(alloc: Global) -> Result<Vec<u8>, AllocError>
+    ensures { IfOk result (λ v. length v.items ≡ 65536) }
+{
+    vec![in alloc; 0; PIECE_LEN]
+}
+
+// Takes all that is left, as `take_all` says, by calls that each ask for as much as the piece has room for.
+fn take_by<S: Source>(
+    alloc: Global,
+    source: &mut S,
+    limit: u64,
+    piece: &mut [u8],
+) -> Result<Vec<u8>, ReadFault>
+    requires limit { limit + 1 < 2 ^ 64 }
+    requires room { 0 < length piece.old }
     ensures ok { IfOk result (λ v. TakesAll (S.left source.old) (S.left source.new) v.items) }
     ensures within { IfOk result (λ v. length v.items ≤ limit) }
     ensures too_long { IsErrOf result ReadFault.TooLong → TakesTooMany limit (S.left source.old) (S.left source.new) }
-    ensures failed { IsErrOf result ReadFault.Failed → Rose (S.faults source.old) (S.faults source.new) }
+    ensures counted { CountsRead result None (S.faults source.old) (S.faults source.new) }
     ensures missing { IsErrOf result ReadFault.Missing → ⊥ }
     ensures front { TakesFront (S.left source.old) (S.left source.new) }
     ensures untold { S.left source.old ≡ None → S.left source.new ≡ None }
-    ensures later { S.faults source.old ≤ S.faults source.new }
 {
     let mut bytes = Vec::new(alloc);
-    let mut piece = [0; PIECE_LEN];
     'reading: loop {
         // One byte past the limit shows that there is too much.
         let room = limit as usize - bytes.len();
-        let asked = PIECE_LEN.min(room + 1);
+        let asked = piece.len().min(room + 1);
         let Ok(count) = source.read(&mut piece[..asked]) else {
             return Err(ReadFault::Failed);
         };
@@ -95,4 +107,25 @@ pub fn take_all<S: Source>(alloc: Global, source: &mut S, limit: u64) -> Result<
             return Err(ReadFault::Memory);
         };
     }
+}
+
+/// Takes all that is left, if that is at most `limit` bytes.
+///
+/// `TooLong` comes after `limit + 1` bytes were taken. After `Failed` and `Memory` a front of what was left was
+/// taken. No more than `limit + 1` bytes are asked for in all, at most 64 KiB in one call; that many are wanted of
+/// memory beside the bytes that are given. No call is tried again.
+pub fn take_all<S: Source>(alloc: Global, source: &mut S, limit: u64) -> Result<Vec<u8>, ReadFault>
+    requires { limit + 1 < 2 ^ 64 }
+    ensures ok { IfOk result (λ v. TakesAll (S.left source.old) (S.left source.new) v.items) }
+    ensures within { IfOk result (λ v. length v.items ≤ limit) }
+    ensures too_long { IsErrOf result ReadFault.TooLong → TakesTooMany limit (S.left source.old) (S.left source.new) }
+    ensures counted { CountsRead result None (S.faults source.old) (S.faults source.new) }
+    ensures missing { IsErrOf result ReadFault.Missing → ⊥ }
+    ensures front { TakesFront (S.left source.old) (S.left source.new) }
+    ensures untold { S.left source.old ≡ None → S.left source.new ≡ None }
+{
+    let Ok(mut piece) = piece_buffer(alloc) else {
+        return Err(ReadFault::Memory);
+    };
+    take_by(alloc, source, limit, &mut piece)
 }

@@ -1,6 +1,6 @@
 // What no clause says: that calls succeed with ample memory, and that layers above can join the clauses.
 ghost use Rattle.std.specs.Prelude.{◌≡◌, ℕ, ◌+◌, ◌^◌, ◌<◌, ◌≤◌, ◌⊎◌, List, length, Some, OnOk, IsOk, IsErrOf};
-ghost use Rattle.att_base.specs.Faults.{Rose};
+ghost use Rattle.att_base.specs.Faults.{FaultCountRose};
 ghost use Rattle.att_base.specs.Files.{IsName};
 ghost use Rattle.att_base.specs.Streams.{put_after};
 
@@ -24,7 +24,7 @@ fn copy_all<S: Source, K: Sink>(
     ensures too_long { IsErrOf result ReadFault.TooLong
         → (bytes : List ℕ) → S.left source.old ≡ Some bytes → limit < length bytes }
     ensures failed { IsErrOf result ReadFault.Failed
-        → Rose (S.faults source.old) (S.faults source.new) ⊎ Rose (K.faults sink.old) (K.faults sink.new) }
+        → FaultCountRose (S.faults source.old) (S.faults source.new) ⊎ FaultCountRose (K.faults sink.old) (K.faults sink.new) }
     ensures missing { IsErrOf result ReadFault.Missing → ⊥ }
     ensures later { K.faults sink.old ≤ K.faults sink.new }
 {

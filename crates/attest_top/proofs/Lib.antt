@@ -1,3 +1,8 @@
-pub mod Finishes
+pub mod Becomes
 pub mod Kept
-pub mod Tops
+pub mod OnePlan
+pub mod OneResult
+pub mod Inverse
+pub mod Headlines
+pub mod Promises
+pub mod ScriptRead

@@ -3,11 +3,11 @@ use Rattle.std.specs.Prelude.{ℕ}
 use Rattle.attest_top.specs.declared.status.Status.{Status}
 use Rattle.attest_top.specs.declared.status.Status.TheVariants.{Good, Rejected, Usage, BadInput, OutsideFault, Full, Memory}
 
-abbrev pub code_of : Status → ℕ
-code_of Good = 0
-code_of Rejected = 1
-code_of Usage = 2
-code_of BadInput = 3
-code_of OutsideFault = 4
-code_of Full = 5
-code_of Memory = 6
+abbrev pub exit_code : Status → ℕ
+exit_code Good = 0
+exit_code Rejected = 1
+exit_code Usage = 2
+exit_code BadInput = 3
+exit_code OutsideFault = 4
+exit_code Full = 5
+exit_code Memory = 6

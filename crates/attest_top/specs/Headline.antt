@@ -1,20 +1,108 @@
--- What a script's printed tags are worth, as a clause of the top call.
-use Rattle.std.specs.Prelude.{◌≡◌, ℕ, List, Option, Some, Ok}
+-- What has been written is worth this: a line for each command, over what files and streams show before and after the call.
+use Rattle.std.specs.Prelude.{◌≡◌, ℕ, List, [], length, ◌&&◌, if◌then◌else◌, Option, Some, None, Ok}
+use Rattle.att_base.specs.Files.{Contents}
+use Rattle.hmac256.specs.Hmac.{hmac}
+use Rattle.challenge.specs.declared.Challenge.{Challenge}
+use Rattle.challenge.specs.Bytes.{challenge_head, challenge_bytes}
+use Rattle.report.specs.Reports.{report_in}
+use Rattle.executable.specs.declared.Program.{Program as Executable}
+use Rattle.executable.specs.Writable.{total_size}
+use Rattle.rv_asm.specs.Assembled.{assembled}
+use Rattle.elf32.specs.Files.{Executable as ElfFile, elf_of}
+use Rattle.elf32.specs.Written.{elf_bytes}
+use Rattle.listing.specs.Listing.{listing_of}
+use Rattle.executable_commands.specs.Lines.{entry_line}
+use Rattle.verifier.specs.declared.verdicts.Verdict.{Verdict}
+use Rattle.verifier.specs.declared.verdicts.NoteVerdict.{NoteVerdict}
+use Rattle.verifier.specs.Verdicts.{verdict_of}
+use Rattle.message_commands.specs.Plans.{Knowledge, KnowledgeIn, ReadNote, verdict_on_note, accepts, accepts_note}
+use Rattle.message_commands.specs.Lines.{challenge_line, verdict_lines}
 use Rattle.script.specs.Programs.{Program}
 use Rattle.script.specs.Grammar.{program_of}
+use Rattle.script.specs.Steps.{meets_full}
+use Rattle.script.specs.Printed.{printed}
 use Rattle.script.specs.Attested.{IsAttested, IsReleased}
 use Rattle.attest_top.specs.declared.status.Status.{Status}
-use Rattle.attest_top.specs.declared.status.Status.TheVariants.{Good, Full}
-use Rattle.attest_top.specs.Lines.{Form, script}
+use Rattle.attest_top.specs.declared.status.Status.TheVariants.{Good, Rejected, Usage, BadInput, OutsideFault, Full, Memory}
+use Rattle.attest_top.specs.Lines.{Form, script, asm, show, challenge, verify}
+use Rattle.attest_top.specs.Moments.{with_appended, Moment}
 
--- the text is that of a script with these promises
-abbrev pub IsAttestedText : List ℕ → Type 0
-IsAttestedText text = (program : Program) × (program_of text ≡ Ok program) × IsAttested program × IsReleased program
+-- the name has these bytes, where files tell
+abbrev pub HasBytes : Option Contents → List ℕ → List ℕ → Type 0
+HasBytes held name bytes = (known : Contents) → held ≡ Some known → known name ≡ Some bytes
 
--- Where a script was run and all was written, the text was that of a script, its history is legal, each tag
--- that an End prints is that of the attested memory at every instant of its pass, and each that a Release
--- prints is that of a note on its pass.
-abbrev pub HoldsOfScript : Option Form → Status → Option (List ℕ) → Type 0
-HoldsOfScript (Some script) Good (Some text) = IsAttestedText text
-HoldsOfScript (Some script) Full (Some text) = IsAttestedText text
-HoldsOfScript _ _ _ = Unit {0}
+-- The text that was left of standard input, where it tells, is that of a script. Standard output has grown by what the
+-- script prints. Its history is legal; each tag that an End prints is that of the attested memory at every instant
+-- of its pass, and each that a Release prints is that of a note on its pass.
+pub record ScriptTells (status : Status) (before after : Moment) : Type 0 where
+  pub text : List ℕ
+  pub left : (known : List ℕ) → before.input.bytes ≡ Some known → known ≡ text
+  pub program : Program
+  pub said : program_of text ≡ Ok program
+  pub ends : status ≡ (if meets_full program.setting [] program.steps then Full else Good)
+  pub grown : after.out ≡ with_appended (printed program) before.out
+  pub attested : IsAttested program
+  pub released : IsReleased program
+
+-- the name ELF has the file of the program that the text assembles to
+pub record AsmTells (text elf : List ℕ) (status : Status) (before after : Moment) : Type 0 where
+  pub source : List ℕ
+  pub read : HasBytes before.files.held text source
+  pub program : Executable
+  pub said : assembled source ≡ Ok program
+  pub ends : status ≡ Good
+  pub file : HasBytes after.files.held elf (elf_bytes program)
+  pub grown : after.out ≡ with_appended (entry_line program.entry (length program.segments) (total_size program.segments)) before.out
+
+-- standard output has grown by the listing of the executable
+pub record ShowTells (elf : List ℕ) (status : Status) (before after : Moment) : Type 0 where
+  pub bytes : List ℕ
+  pub read : HasBytes before.files.held elf bytes
+  pub file : ElfFile
+  pub said : elf_of bytes ≡ Ok file
+  pub ends : status ≡ Good
+  pub grown : after.out ≡ with_appended (listing_of file.segments) before.out
+
+-- the name OUT has the challenge that the words ask for, under the key
+pub record ChallengeTells (key : List ℕ) (asked : Challenge) (out : List ℕ) (status : Status) (before after : Moment) : Type 0 where
+  pub bytes : List ℕ
+  pub read : HasBytes before.files.held key bytes
+  pub ends : status ≡ Good
+  pub file : HasBytes after.files.held out (challenge_bytes bytes asked)
+  pub grown : after.out ≡ with_appended (challenge_line asked.counter (hmac bytes (challenge_head asked))) before.out
+
+-- standard output has grown by the verdicts on the report and on the note, and the status says whether each accepts
+pub record VerifyTells (verifier report : List ℕ) (noted : Option (List ℕ)) (status : Status) (before after : Moment) : Type 0 where
+  pub known : Knowledge
+  pub names : List (List ℕ)
+  pub learned : KnowledgeIn verifier before.files.held names (Ok known)
+  pub bytes : List ℕ
+  pub read : HasBytes before.files.held report bytes
+  pub note : Option (List ℕ)
+  pub note_names : List (List ℕ)
+  pub note_read : ReadNote noted before.files.held note_names (Ok note)
+  pub verdict : Verdict
+  pub judged : verdict ≡ verdict_of known.standing known.images bytes
+  pub note_verdict : Option NoteVerdict
+  pub note_is_judged : note_verdict ≡ verdict_on_note known.standing.key verdict (report_in bytes) note
+  pub ends : status ≡ (if accepts verdict && accepts_note note_verdict then Good else Rejected)
+  pub grown : after.out ≡ with_appended (verdict_lines known.images verdict note_verdict) before.out
+
+-- all was written
+abbrev pub AllWritten : Status → Type 0
+AllWritten Good = Unit {0}
+AllWritten Rejected = Unit {0}
+AllWritten Usage = ⊥
+AllWritten BadInput = ⊥
+AllWritten OutsideFault = ⊥
+AllWritten Full = Unit {0}
+AllWritten Memory = ⊥
+
+-- what has been written, where all was
+abbrev pub Headline : Option Form → Status → Moment → Moment → Type 0
+Headline None status before after = AllWritten status → ⊥
+Headline (Some script) status before after = AllWritten status → ScriptTells status before after
+Headline (Some (asm text elf)) status before after = AllWritten status → AsmTells text elf status before after
+Headline (Some (show elf)) status before after = AllWritten status → ShowTells elf status before after
+Headline (Some (challenge key asked out)) status before after = AllWritten status → ChallengeTells key asked out status before after
+Headline (Some (verify verifier report noted)) status before after = AllWritten status → VerifyTells verifier report noted status before after

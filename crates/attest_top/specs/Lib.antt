@@ -1,9 +1,10 @@
-pub mod Codes
+pub mod Moments
 pub mod Lines
+pub mod Found
 pub mod Plans
-pub mod Answers
-pub mod Endings
+pub mod Outcomes
+pub mod Causes
 pub mod Headline
-pub mod Makes
-pub mod Says
-pub mod Tops
+pub mod Promise
+pub mod Codes
+pub mod Prepared

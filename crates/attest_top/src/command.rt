@@ -1,19 +1,19 @@
 //! The words of a command line.
 
-ghost use Rattle.std.specs.Prelude.{◌≡◌, IsTrue, IfSome};
-ghost use Rattle.std.specs.Option.{ForSome, option_map};
+ghost use Rattle.std.specs.Prelude.{◌≡◌, IsTrue, IfSome, None};
 ghost use Rattle.att_base.specs.Files.{IsName};
 ghost use Rattle.challenge.specs.Challenges.{IsChallenge};
-ghost use Rattle.attest_top.specs.Lines.{is_name, two_words, three_words, four_words, eight_words, command_of};
-ghost use Rattle.attest_top.specs.Makes.{form_of, IsNamed};
+ghost use Rattle.attest_top.specs.Lines.{is_file_name, show_form, two_files_form, note_form, challenge_form, command_of};
+ghost use Rattle.attest_top.specs.Prepared.{form_meant, HasFileNames};
 
 use att_base::Words;
 use challenge::Challenge;
 use message_commands::challenge_of;
+use std::marker::Model;
 
 /// What the words of a command line ask for, with the names of files in them.
 #[derive(Clone, Copy)]
-pub enum Command<'a> {
+pub enum Kind<'a> {
     /// Run the script on standard input.
     Script,
     /// Assemble a text into an ELF file.
@@ -39,83 +39,103 @@ pub enum Command<'a> {
     },
 }
 
+/// A command. Clauses see its form; its names are names of files, and what it asks for is a valid challenge.
+#[derive(Drop)]
+pub struct Command<'a> {
+    pub kind: Kind<'a>,
+}
+
+impl<'a> Model for Command<'a> {
+    ghost use Rattle.attest_top.specs.Lines.{Form};
+    ghost use Rattle.attest_top.specs.Prepared.{form_meant, HasFileNames};
+
+    ghost Value = { Form };
+
+    ghost view = { λ c. form_meant c.kind };
+
+    ghost invariant = { λ c. HasFileNames c.kind };
+}
+
 /// The most bytes of a file's name.
 const NAME_BYTES: usize = 255;
 
-fn is_name(word: &str) -> bool
-    ensures value { result ≡ is_name word.now }
+fn is_file_name(word: &str) -> bool
+    ensures value { result ≡ is_file_name word.now }
     ensures name { IsTrue result → IsName word.now }
 {
     !word.is_empty() && word.len() <= NAME_BYTES
 }
 
 // `show ELF`
-fn two_words<'a>(verb: &str, elf: &'a str) -> Option<Command<'a>>
-    ensures form { option_map form_of result ≡ two_words verb.now elf.now }
-    ensures named { ForSome result IsNamed }
+fn show<'a>(verb: &str, elf: &'a str) -> Option<Command<'a>>
+    ensures { result ≡ show_form verb.now elf.now }
 {
-    if verb == "show" && is_name(elf) {
-        return Some(Command::Show { elf });
+    if verb == "show" && is_file_name(elf) {
+        return Some(Command {
+            kind: Kind::Show { elf },
+        });
     }
     None
 }
 
 // `asm TEXT ELF` and `verify VERIFIER REPORT`
-fn three_words<'a>(verb: &str, one: &'a str, other: &'a str) -> Option<Command<'a>>
-    ensures form { option_map form_of result ≡ three_words verb.now one.now other.now }
-    ensures named { ForSome result IsNamed }
+fn two_files<'a>(verb: &str, one: &'a str, other: &'a str) -> Option<Command<'a>>
+    ensures { result ≡ two_files_form verb.now one.now other.now }
 {
-    if !(is_name(one) && is_name(other)) {
+    if !(is_file_name(one) && is_file_name(other)) {
         return None;
     }
-    match verb {
-        "asm" => Some(Command::Asm {
+    let kind = match verb {
+        "asm" => Kind::Asm {
             text: one,
             elf: other,
-        }),
-        "verify" => Some(Command::Verify {
+        },
+        "verify" => Kind::Verify {
             verifier: one,
             report: other,
             note: None,
-        }),
-        _ => None,
-    }
+        },
+        _ => return None,
+    };
+    Some(Command { kind })
 }
 
 // `verify VERIFIER REPORT NOTE`
-fn four_words<'a>(
+fn with_note<'a>(
     verb: &str,
     verifier: &'a str,
     report: &'a str,
     note: &'a str,
 ) -> Option<Command<'a>>
-    ensures form { option_map form_of result ≡ four_words verb.now verifier.now report.now note.now }
-    ensures named { ForSome result IsNamed }
+    ensures { result ≡ note_form verb.now verifier.now report.now note.now }
 {
-    if verb == "verify" && is_name(verifier) && is_name(report) && is_name(note) {
-        return Some(Command::Verify {
-            verifier,
-            report,
-            note: Some(note),
+    if verb == "verify" && is_file_name(verifier) && is_file_name(report) && is_file_name(note) {
+        return Some(Command {
+            kind: Kind::Verify {
+                verifier,
+                report,
+                note: Some(note),
+            },
         });
     }
     None
 }
 
 // `challenge KEY DISCIPLINE LEAD HOLD COUNTER NONCE OUT`, of which the five words between ask for this
-fn eight_words<'a>(
+fn challenge<'a>(
     verb: &str,
     key: &'a str,
     asked: Option<Challenge>,
     out: &'a str,
 ) -> Option<Command<'a>>
     requires { IfSome asked IsChallenge }
-    ensures form { option_map form_of result ≡ eight_words verb.now key.now asked out.now }
-    ensures named { ForSome result IsNamed }
+    ensures { result ≡ challenge_form verb.now key.now asked out.now }
 {
     match asked {
-        Some(asked) if verb == "challenge" && is_name(key) && is_name(out) => {
-            Some(Command::Challenge { key, asked, out })
+        Some(asked) if verb == "challenge" && is_file_name(key) && is_file_name(out) => {
+            Some(Command {
+                kind: Kind::Challenge { key, asked, out },
+            })
         }
         _ => None,
     }
@@ -124,14 +144,13 @@ fn eight_words<'a>(
 /// The command that the words name; None where they are in no form.
 #[tactic(auto, unfolding(crate::specs::Lines::command_of))]
 pub fn parse<'a>(words: &'a Words) -> Option<Command<'a>>
-    ensures form { option_map form_of result ≡ command_of words.now }
-    ensures named { ForSome result IsNamed }
+    ensures { result ≡ command_of words.now }
 {
     match words.count() {
-        1 if words.word(0) == "script" => Some(Command::Script),
-        2 => two_words(words.word(0), words.word(1)),
-        3 => three_words(words.word(0), words.word(1), words.word(2)),
-        4 => four_words(words.word(0), words.word(1), words.word(2), words.word(3)),
+        1 if words.word(0) == "script" => Some(Command { kind: Kind::Script }),
+        2 => show(words.word(0), words.word(1)),
+        3 => two_files(words.word(0), words.word(1), words.word(2)),
+        4 => with_note(words.word(0), words.word(1), words.word(2), words.word(3)),
         8 => {
             let asked = challenge_of(
                 words.word(2),
@@ -140,7 +159,7 @@ pub fn parse<'a>(words: &'a Words) -> Option<Command<'a>>
                 words.word(5),
                 words.word(6),
             );
-            eight_words(words.word(0), words.word(1), asked, words.word(7))
+            challenge(words.word(0), words.word(1), asked, words.word(7))
         }
         _ => None,
     }

@@ -3,20 +3,16 @@
 
 mod command;
 mod finish;
+mod laws;
 mod prepare;
 mod scripts;
 mod status;
 mod top;
 
-pub use plans::Ending;
+pub use command_plans::Ending;
+pub use laws::one_plan;
 pub use status::Status;
 pub use top::{attest, attest_still};
 
-#[cfg(test)]
-mod asm_tests;
-#[cfg(test)]
-mod message_tests;
-#[cfg(test)]
-mod show_tests;
 #[cfg(test)]
 mod tests;

@@ -21,11 +21,11 @@ pub enum Status {
 
 impl Status {
     ghost use Rattle.std.specs.Prelude.{◌≡◌};
-    ghost use Rattle.attest_top.specs.Codes.{code_of};
+    ghost use Rattle.attest_top.specs.Codes.{exit_code};
 
     /// The number of the status, 0 to 6.
     pub fn code(self) -> u8
-        ensures { result ≡ code_of self }
+        ensures { result ≡ exit_code self }
     {
         match self {
             Status::Good => 0,

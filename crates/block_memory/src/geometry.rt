@@ -52,7 +52,7 @@ impl Model for Geometry {
 }
 
 impl Geometry {
-    ghost use Rattle.std.specs.Prelude.{◌≡◌, ◌<◌, ◌≤◌, ◌↔◌, IsTrue, IfSome};
+    ghost use Rattle.std.specs.Prelude.{◌≡◌, ◌^◌, ◌<◌, ◌≤◌, ◌↔◌, IsTrue, IfSome};
     ghost use Rattle.std.specs.Option.{SomeIff};
     ghost use Rattle.history.specs.Layout.{Layout, IsLayout, byte_count, has_byte, block_of, fits};
 
@@ -89,6 +89,20 @@ impl Geometry {
         ensures most { result ≤ 65536 }
     {
         self.size
+    }
+
+    /// The exponent of the block's size, which is a power of two.
+    pub(crate) fn shift(&self) -> u32
+        ensures value { self.now.size ≡ 2 ^ result }
+        ensures least { 4 ≤ result }
+        ensures most { result ≤ 16 }
+    {
+        for exponent in 4u32..16 {
+            if self.size == 1 << exponent {
+                return exponent;
+            }
+        }
+        16
     }
 
     /// The number of blocks.

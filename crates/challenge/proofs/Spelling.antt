@@ -15,7 +15,7 @@ use Rattle.challenge.specs.declared.Challenge.{Challenge}
 use Rattle.challenge.specs.declared.faults.ChallengeFault.{ChallengeFault}
 use Rattle.challenge.specs.Challenges.{IsChallenge}
 use Rattle.challenge.specs.Numbers.{u32_at, u64_at, discipline_with}
-use Rattle.challenge.specs.Bytes.{challenge_head, challenge_bytes, Spells, IsReading, is_challenge, fields_at, if_spelled, head_challenge, spelled_challenge, with_mac, challenge_in}
+use Rattle.challenge.specs.Bytes.{challenge_head, challenge_bytes, Spells, IsChallengeReading, is_challenge, fields_at, if_spelled, head_challenge, spelled_challenge, with_mac, challenge_in}
 use Rattle.challenge.proofs.Codes.{code_stands}
 
 -- ---- validity as a test
@@ -166,7 +166,7 @@ right_mac key bytes c spells e =
     let back : drop 40 bytes ≡ hmac key (challenge_head c) = ap (drop 40) e ∙ drop_at (challenge_head c) (hmac key (challenge_head c)) 40 long in
     ap (hmac key) spells.head ∙ sym back
 
-decided : (key bytes : List ℕ) (spelled : Option Challenge) (right : Bool) → IsBytes bytes → spelled_challenge bytes ≡ spelled → bytes_eq (hmac key (take 40 bytes)) (drop 40 bytes) ≡ right → IsReading key bytes (with_mac spelled right)
+decided : (key bytes : List ℕ) (spelled : Option Challenge) (right : Bool) → IsBytes bytes → spelled_challenge bytes ≡ spelled → bytes_eq (hmac key (take 40 bytes)) (drop 40 bytes) ≡ right → IsChallengeReading key bytes (with_mac spelled right)
 decided key bytes None right fits none mac = λ c spells. (let both : None ≡ Some c = sym none ∙ spelled_again bytes c spells in absurd cc)
 decided key bytes (Some c) true fits found mac =
     let spells = spelled_is bytes c fits found in
@@ -175,12 +175,12 @@ decided key bytes (Some c) false fits found mac =
     let spells = spelled_is bytes c fits found in
     (c, spells, λ e. both_ways _ mac ((bytes_eq-Decides (hmac key (take 40 bytes)) (drop 40 bytes)).1 (right_mac key bytes c spells e)))
 
-pub reading : (key bytes : List ℕ) → IsBytes bytes → IsReading key bytes (challenge_in key bytes)
+pub reading : (key bytes : List ℕ) → IsBytes bytes → IsChallengeReading key bytes (challenge_in key bytes)
 unfolding challenge_in
 reading key bytes fits = decided key bytes (spelled_challenge bytes) (bytes_eq (hmac key (take 40 bytes)) (drop 40 bytes)) fits refl refl
 
-pub reading_of : (key bytes : List ℕ) (r : Result Challenge ChallengeFault) → IsBytes bytes → r ≡ challenge_in key bytes → IsReading key bytes r
-reading_of key bytes r fits value = subst (IsReading key bytes) (sym value) (reading key bytes fits)
+pub reading_of : (key bytes : List ℕ) (r : Result Challenge ChallengeFault) → IsBytes bytes → r ≡ challenge_in key bytes → IsChallengeReading key bytes r
+reading_of key bytes r fits value = subst (IsChallengeReading key bytes) (sym value) (reading key bytes fits)
 
 -- ---- what is written is read
 

@@ -33,10 +33,10 @@ pub record Spells (bytes : List ℕ) (c : Challenge) : Type 0 where
 
 -- What reading answers: the challenge whose bytes under the key these are; or that they spell none; or that they
 -- spell one, and the last 32 aren't its MAC.
-abbrev pub IsReading : List ℕ → List ℕ → Result Challenge ChallengeFault → Type 0
-IsReading key bytes (Ok c) = Spells bytes c × (bytes ≡ challenge_bytes key c)
-IsReading key bytes (Err Malformed) = (c : Challenge) → Spells bytes c → ⊥
-IsReading key bytes (Err BadMac) = (c : Challenge) × Spells bytes c × (bytes ≢ challenge_bytes key c)
+abbrev pub IsChallengeReading : List ℕ → List ℕ → Result Challenge ChallengeFault → Type 0
+IsChallengeReading key bytes (Ok c) = Spells bytes c × (bytes ≡ challenge_bytes key c)
+IsChallengeReading key bytes (Err Malformed) = (c : Challenge) → Spells bytes c → ⊥
+IsChallengeReading key bytes (Err BadMac) = (c : Challenge) × Spells bytes c × (bytes ≢ challenge_bytes key c)
 
 -- the same as a function, for definitions above that compute
 

@@ -3,7 +3,7 @@
 ghost use Rattle.std.specs.Prelude.{◌≡◌, ◌<◌, ◌^◌, List, ℕ, length, slice_index, Ok};
 ghost use Rattle.challenge.specs.declared.Challenge.{Challenge};
 ghost use Rattle.challenge.specs.Challenges.{IsChallenge};
-ghost use Rattle.challenge.specs.Bytes.{challenge_head, challenge_bytes, Spells, IsReading, if_spelled, head_challenge, challenge_in};
+ghost use Rattle.challenge.specs.Bytes.{challenge_head, challenge_bytes, Spells, IsChallengeReading, if_spelled, head_challenge, challenge_in};
 
 use crate::Challenge;
 use crate::faults::ChallengeFault;
@@ -76,7 +76,7 @@ fn head_challenge(bytes: &[u8]) -> Option<Challenge>
 #[tactic(auto, unfolding(crate::specs::Bytes::challenge_in, crate::specs::Bytes::spelled_challenge))]
 pub fn read(bytes: &[u8], key: &[u8]) -> Result<Challenge, ChallengeFault>
     ensures value { result ≡ challenge_in key.now bytes.now }
-    ensures reading { IsReading key.now bytes.now result }
+    ensures reading { IsChallengeReading key.now bytes.now result }
 {
     if bytes.len() != CHALLENGE_BYTES {
         return Err(ChallengeFault::Malformed);
@@ -109,5 +109,5 @@ pub fn write(challenge: &Challenge, key: &[u8]) -> [u8; CHALLENGE_BYTES]
 /// A byte list spells at most one challenge, and under one key each challenge has one byte list.
 pub fn one_spelling()
     ensures value { (bytes : List ℕ) (a b : Challenge) → Spells bytes a → Spells bytes b → a ≡ b }
-    ensures read { (key bytes : List ℕ) → ((i : ℕ) → slice_index bytes i < 256) → IsReading key bytes (challenge_in key bytes) }
+    ensures read { (key bytes : List ℕ) → ((i : ℕ) → slice_index bytes i < 256) → IsChallengeReading key bytes (challenge_in key bytes) }
 {}

@@ -45,79 +45,40 @@ fn counts_of_ticks_have_limits(rt: HostRuntime) {
     }
 }
 
-// What reading the first `len` bytes answers, with `put` at a place: 0 a challenge, 1 Malformed, 2 BadMac.
-fn answer(alloc: Global, len: usize, place: usize, put: &[u8]) -> Result<u32, Fail> {
+// What reading the first `len` bytes answers, with `put` at a place: None is a challenge.
+fn answer(
+    alloc: Global,
+    len: usize,
+    place: usize,
+    put: &[u8],
+) -> Result<Option<ChallengeFault>, Fail> {
     let mut file = Vec::from_slice(alloc, DEC_AND_ONE)?;
     file.truncate(len);
-    for (k, byte) in put.iter().enumerate() {
-        if let Some(old) = file.get_mut(place.saturating_add(k)) {
-            *old = *byte;
-        }
+    for (old, byte) in file.iter_mut().skip(place).zip(put) {
+        *old = *byte;
     }
-    Ok(match read(&file, b"key") {
-        Ok(_) => 0,
-        Err(ChallengeFault::Malformed) => 1,
-        Err(ChallengeFault::BadMac) => 2,
-    })
+    Ok(read(&file, b"key").err())
 }
 
-// Each bound of the grammar at its edge. The last two rows are MACs over one byte less and under another key.
+// Bounds of the grammar at their edges.
 #[test]
 fn what_is_no_challenge(rt: HostRuntime) -> Result<(), Fail> {
-    let table: [(usize, usize, &[u8], u32); 28] = [
-        (72, 0, b"", 0),
-        (71, 0, b"", 1),
-        (73, 0, b"", 1),
-        (40, 0, b"", 1),
-        (0, 0, b"", 1),
-        (72, 3, b"\x32", 1),
-        (72, 0, b"\x53", 1),
-        (72, 4, b"\x00", 1),
-        (72, 4, b"\x06", 1),
-        (72, 4, b"\xff", 1),
-        (72, 4, b"\x05", 2),
-        (72, 5, b"\x01", 1),
-        (72, 6, b"\x01", 1),
-        (72, 7, b"\x80", 1),
-        (72, 8, b"\x00\x00\x10\x00", 2),
-        (72, 8, b"\x00\x00\x10\x01", 1),
-        (72, 8, b"\x01\x00\x00\x64", 1),
-        (72, 12, b"\x00\x00\x00\x01", 1),
-        (72, 12, b"\x01\x00\x00\x00", 1),
-        (
-            72,
-            4,
-            b"\x05\x00\x00\x00\x00\x00\x00\x64\x00\x00\x10\x00",
-            2,
-        ),
-        (
-            72,
-            4,
-            b"\x02\x00\x00\x00\x00\x00\x00\x64\x00\x00\x10\x01",
-            1,
-        ),
-        (
-            72,
-            4,
-            b"\x04\x00\x00\x00\x00\x00\x00\x64\x00\x00\x00\x01",
-            1,
-        ),
-        (72, 16, b"\x00\x00\x00\x00\x00\x00\x00\x08", 2),
-        (72, 39, b"\x1f", 2),
-        (72, 40, b"\xf8", 2),
-        (72, 71, b"\x82", 2),
-        (
-            72,
-            40,
-            b"\x43\x5f\xb0\x3b\x0a\xef\x54\x0b\x53\xea\xfa\xf0\xb0\x5d\x3a\x44\x86\xa3\x29\x4f\x33\x31\x7c\x9d\x92\x39\xf2\xdd\x4d\x2d\x54\x32",
-            2,
-        ),
-        (
-            72,
-            40,
-            b"\x50\xf1\xad\x72\x3f\xb5\x9a\x97\xa5\x60\x1f\x83\x69\xca\x73\xc2\xa3\x7e\x28\x25\xe5\xc2\x2d\xb1\x2d\xd8\xf1\x5b\xf5\xb3\x19\xeb",
-            2,
-        ),
+    let malformed = Some(ChallengeFault::Malformed);
+    let bad_mac = Some(ChallengeFault::BadMac);
+    let table: [(usize, usize, &[u8], Option<ChallengeFault>); 13] = [
+        (72, 0, b"", None),
+        (71, 0, b"", malformed),
+        (73, 0, b"", malformed),
+        (72, 3, b"\x32", malformed),
+        (72, 4, b"\x06", malformed),
+        (72, 4, b"\x05", bad_mac),
+        (72, 7, b"\x80", malformed),
+        (72, 8, b"\x00\x00\x10\x00", bad_mac),
+        (72, 8, b"\x00\x00\x10\x01", malformed),
+        (72, 12, b"\x00\x00\x00\x01", malformed),
+        (72, 16, b"\x00\x00\x00\x00\x00\x00\x00\x08", bad_mac),
+        (72, 39, b"\x1f", bad_mac),
+        (72, 71, b"\x82", bad_mac),
     ];
     for (len, place, put, expected) in table {
         assert_eq!(rt; answer(rt.alloc(), len, place, put)?, expected);

@@ -3,7 +3,7 @@ use Rattle.std.proofs.Common.{◌≡◌, ℕ, ◌<◌, ◌≤◌, List, [], ◌�
 use Rattle.std.proofs.lemmas.List.Elements.{All-nil, All-cons, All-append}
 use Rattle.history.specs.declared.events.Entry.{Entry}
 use Rattle.history.specs.Memory.{own}
-use Rattle.chronicle.specs.Ports.{IsBeyond, OthersFollow, Adds}
+use Rattle.chronicle.specs.Ports.{IsBeyond, OthersFollow, AddsEntry}
 use Rattle.chronicle.proofs.Own.{own-append, own_none, own_all}
 
 -- others add none
@@ -15,7 +15,7 @@ pub own_followed : (low high : ℕ) (old new : List Entry) → OthersFollow low 
 own_followed low high old new f = ap (λ l. own l low high) f.whole ∙ own_others low high old f.rest f.beyond
 
 -- the own entry comes last
-pub own_added : (low high : ℕ) (old new : List Entry) (entry : Entry) → Adds low high old new entry → low ≤ entry.actor → entry.actor < high → own new low high ≡ own old low high ++ entry ∷ []
+pub own_added : (low high : ℕ) (old new : List Entry) (entry : Entry) → AddsEntry low high old new entry → low ≤ entry.actor → entry.actor < high → own new low high ≡ own old low high ++ entry ∷ []
 own_added low high old new entry a from upto =
     let one : own (entry ∷ []) low high ≡ entry ∷ [] = own_all low high (entry ∷ []) (All-cons (λ e. (low ≤ e.actor) × (e.actor < high)) entry [] (from, upto) (All-nil (λ e. (low ≤ e.actor) × (e.actor < high)))) in
     ap (λ l. own l low high) a.whole
@@ -34,7 +34,7 @@ followed_join low high first second third a b = record {
   beyond = All-append (IsBeyond low high) a.rest b.rest a.beyond b.beyond;
 }
 
-pub added_join : (low high : ℕ) (first second third : List Entry) (entry : Entry) → OthersFollow low high first second → Adds low high second third entry → Adds low high first third entry
+pub added_join : (low high : ℕ) (first second third : List Entry) (entry : Entry) → OthersFollow low high first second → AddsEntry low high second third entry → AddsEntry low high first third entry
 added_join low high first second third entry a b = record {
   between = a.rest ++ b.between;
   whole = b.whole ∙ ap (λ l. l ++ b.between ++ entry ∷ []) a.whole ∙ ap (λ l. l ++ entry ∷ []) (append_assoc first a.rest b.between);

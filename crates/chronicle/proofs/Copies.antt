@@ -1,14 +1,16 @@
 -- At each instant of a pass each attested block has the bytes of its Copy.
 use Rattle.std.proofs.Common.{◌≡◌, ℕ, suc, ◌+◌, ◌<◌, ◌≤◌, Bool, true, false, not, List, [], ◌∷◌, ◌++◌, Some, refl, sym, ap, ◌∙◌, subst, inl, inr, arith, le_trans}
-use Rattle.std.specs.Prelude.{◌&&◌, IsTrue, nat_lt, if◌then◌else◌}
+use Rattle.std.specs.Prelude.{◌&&◌, IsTrue, nat_lt, flat_map, if◌then◌else◌}
+use Rattle.std.proofs.lemmas.List.{take_all}
 use Rattle.std.specs.List.{list_any}
 use Rattle.std.proofs.lemmas.Bool.{cases_lt, or_left, false≢true, lt-ltb}
 use Rattle.history.specs.declared.events.Discipline.{Discipline}
 use Rattle.history.specs.declared.events.Discipline.TheVariants.{All, AllExt, Dec, Inc, IncExt}
 use Rattle.history.specs.declared.events.Act.{Act}
 use Rattle.history.specs.declared.events.Entry.{Entry}
-use Rattle.history.specs.Layout.{Setting, IsSetting, is_attested, index_of, block_of}
-use Rattle.history.specs.Memory.{Memory, back, memory_after, memory_at, attested_bytes}
+use Rattle.history.specs.Attested.{attested_blocks, is_attested, index_of, total}
+use Rattle.history.specs.Layout.{Setting, IsSetting, block_of}
+use Rattle.history.specs.Memory.{Memory, back, memory_after, memory_at, block_bytes, attested_bytes}
 use Rattle.history.specs.Pass.{Pass, pass_after, copies_in, copied_of, is_ended, is_released, is_copy, is_end, is_release, is_extended}
 use Rattle.history.specs.Locks.{locks, pass_locks}
 use Rattle.history.specs.Legal.{IsLegal}
@@ -16,7 +18,8 @@ use Rattle.history.specs.Copied.{copied_bytes}
 use Rattle.history.specs.Instants.{IsInstant, is_newest, IsPassAt, EndsAt, ReleasesAt}
 use Rattle.history.specs.Sliding.{SameBlock, up_to_copy, locks_at_start}
 use Rattle.chronicle.proofs.Passes.{in_turn}
-use Rattle.chronicle.proofs.Slide.{slides, index_fits, not_copied, up_to_same}
+use Rattle.chronicle.proofs.Indexes.{StandAtIndexes, index_fits}
+use Rattle.chronicle.proofs.Slide.{slides, not_copied, up_to_same}
 use Rattle.chronicle.proofs.Places.{legal_back}
 use Rattle.chronicle.proofs.Bytes.{HasCopies, blocks_from, copied_are}
 use Rattle.chronicle.proofs.Windows.{opened_is, starts_before, was_at, some_later, closed_at, closed_same, end_order, end_puts, followed, Window, end_window, release_window}
@@ -48,47 +51,47 @@ newest_one [] ends releases = absurd (false≢true ends)
 newest_one (entry ∷ since) ends releases = absurd (false≢true (sym (end_puts entry.act ends 0).2 ∙ releases))
 
 -- a pass that has ended has copied every attested block
-pub all_copied : (w : Setting) (history : List Entry) → IsLegal w history → (form : Discipline) (number start place : ℕ) (pass : Pass) → IsPassAt history form number start place pass → IsTrue (is_ended pass) → copied_of pass ≡ w.attested
+pub all_copied : (w : Setting) (history : List Entry) → IsLegal w history → (form : Discipline) (number start place : ℕ) (pass : Pass) → IsPassAt history form number start place pass → IsTrue (is_ended pass) → copied_of pass ≡ total w.ranges
 all_copied w history legal form number start place pass here over = (in_turn w (back history place) (legal_back w history legal place) pass here.last).whole over
 
-module _ (w : Setting) (v : IsSetting w) (history : List Entry) (legal : IsLegal w history) (form : Discipline) (number start end : ℕ) (e : EndsAt history form number start end) where
+module _ (w : Setting) (v : IsSetting w) (stand : StandAtIndexes w.ranges) (history : List Entry) (legal : IsLegal w history) (form : Discipline) (number start end : ℕ) (e : EndsAt history form number start end) where
   -- what is copied is any memory that has the bytes of each Copy
-  copied_from : (m : Memory) → HasCopies w m (back history end) w.attested → attested_bytes w m ≡ copied_bytes w (back history end)
+  copied_from : (m : Memory) → HasCopies w m (back history end) (total w.ranges) → attested_bytes w m ≡ copied_bytes w (back history end)
   copied_from m has =
       let count = all_copied w history legal form number start end e.pass e.here (newest_any is_end e.pass.since e.newest) in
-      ap (blocks_from w m) (sym count) ∙ copied_are w m (back history end) (legal_back w history legal end) e.pass e.here.last (subst (λ n. HasCopies w m (back history end) n) (sym count) has)
+      ap (flat_map (block_bytes w m)) (sym (take_all (total w.ranges) (attested_blocks w.ranges) (omega arith))) ∙ ap (blocks_from w m) (sym count) ∙ copied_are w stand m (back history end) (legal_back w history legal end) e.pass e.here.last (subst (λ n. HasCopies w m (back history end) n) (sym count) has)
 
   -- where the discipline locks from Start on, each block had the bytes of Start at its Copy
-  copies_of_start : IsTrue (locks_at_start form) → (place : ℕ) → ((block : ℕ) → IsTrue (is_attested w block) → SameBlock w block (back history place) (back history start)) → HasCopies w (memory_at w history place) (back history end) w.attested
+  copies_of_start : IsTrue (locks_at_start form) → (place : ℕ) → ((block : ℕ) → IsTrue (is_attested w.ranges block) → SameBlock w block (back history place) (back history start)) → HasCopies w (memory_at w history place) (back history end) (total w.ranges)
   copies_of_start begins place same =
       let count = all_copied w history legal form number start end e.pass e.here (newest_any is_end e.pass.since e.newest) in
-      let s = slides w v (back history end) (legal_back w history legal end) e.pass e.here.last in
+      let s = slides w v stand (back history end) (legal_back w history legal end) e.pass e.here.last in
       let begins' = subst (λ f. IsTrue (locks_at_start f)) (sym e.here.discipline) begins in
       let opened = opened_is history form number start end e.pass e.here in
       record {
         each = λ block attested index x low here.
-            let index' = subst (λ n. index_of w block < n) (sym count) index in
+            let index' = subst (λ n. index_of w.ranges block < n) (sym count) index in
             same block attested x low here ∙ sym (s.begun begins' block attested index' x low here ∙ ap (λ l. memory_after w l x) opened);
       }
 
   -- and has them still where its lock is held
-  start_bytes : IsTrue (locks_at_start form) → (at : ℕ) (pass : Pass) → IsPassAt history form number start at pass → ((index : ℕ) → IsTrue (pass_locks pass index)) → (block : ℕ) → IsTrue (is_attested w block) → SameBlock w block (back history at) (back history start)
+  start_bytes : IsTrue (locks_at_start form) → (at : ℕ) (pass : Pass) → IsPassAt history form number start at pass → ((index : ℕ) → IsTrue (pass_locks pass index)) → (block : ℕ) → IsTrue (is_attested w.ranges block) → SameBlock w block (back history at) (back history start)
   start_bytes begins at pass now locked block attested =
-      let s = slides w v (back history at) (legal_back w history legal at) pass now.last in
+      let s = slides w v stand (back history at) (legal_back w history legal at) pass now.last in
       let begins' = subst (λ f. IsTrue (locks_at_start f)) (sym now.discipline) begins in
       let opened = opened_is history form number start at pass now in
       λ x low here.
-      elim (cases_lt (index_of w block) (copied_of pass)) [
-        | inl copied ↦ s.kept block attested copied (locked (index_of w block)) x low here ∙ s.begun begins' block attested copied x low here ∙ ap (λ l. memory_after w l x) opened
+      elim (cases_lt (index_of w.ranges block) (copied_of pass)) [
+        | inl copied ↦ s.kept block attested copied (locked (index_of w.ranges block)) x low here ∙ s.begun begins' block attested copied x low here ∙ ap (λ l. memory_after w l x) opened
         | inr waits ↦ s.waiting begins' block attested waits x low here ∙ ap (λ l. memory_after w l x) opened
       ]
 
   -- a copied block that is still locked has the bytes of its Copy
-  kept_bytes : (at : ℕ) (pass : Pass) → IsPassAt history form number start at pass → copied_of pass ≡ w.attested → ((index : ℕ) → index < copied_of pass → IsTrue (pass_locks pass index)) → (block : ℕ) → IsTrue (is_attested w block) → SameBlock w block (back history at) (up_to_copy block (back history at))
+  kept_bytes : (at : ℕ) (pass : Pass) → IsPassAt history form number start at pass → copied_of pass ≡ total w.ranges → ((index : ℕ) → index < copied_of pass → IsTrue (pass_locks pass index)) → (block : ℕ) → IsTrue (is_attested w.ranges block) → SameBlock w block (back history at) (up_to_copy block (back history at))
   kept_bytes at pass now count locked block attested =
-      let s = slides w v (back history at) (legal_back w history legal at) pass now.last in
-      let copied = subst (λ n. index_of w block < n) (sym count) (index_fits w block attested) in
-      s.kept block attested copied (locked (index_of w block) copied)
+      let s = slides w v stand (back history at) (legal_back w history legal at) pass now.last in
+      let copied = subst (λ n. index_of w.ranges block < n) (sym count) (index_fits w.ranges block attested) in
+      s.kept block attested copied (locked (index_of w.ranges block) copied)
 
   -- the law for a discipline that locks from Start on, at a place where it still holds every lock
   from_start : IsTrue (locks_at_start form) → (test : Act → Bool) (place : ℕ) → (t : Window w history form number start start place test) → ((index : ℕ) → IsTrue (pass_locks t.pass index)) → attested_bytes w (memory_at w history place) ≡ copied_bytes w (back history end)
@@ -96,7 +99,7 @@ module _ (w : Setting) (v : IsSetting w) (history : List Entry) (legal : IsLegal
       copied_from (memory_at w history place) (copies_of_start begins place (λ block attested x low here. t.same x ∙ start_bytes begins t.at t.pass t.here locked block attested x low here))
 
   -- the law for one that locks from the Copy on, at a place where all is copied and every lock is held
-  from_copies : (place at : ℕ) (pass : Pass) → IsPassAt history form number start at pass → copied_of pass ≡ w.attested → ((index : ℕ) → index < copied_of pass → IsTrue (pass_locks pass index)) → ((x : ℕ) → memory_at w history place x ≡ memory_at w history at x) → ((block : ℕ) → up_to_copy block (back history at) ≡ up_to_copy block (back history end)) → attested_bytes w (memory_at w history place) ≡ copied_bytes w (back history end)
+  from_copies : (place at : ℕ) (pass : Pass) → IsPassAt history form number start at pass → copied_of pass ≡ total w.ranges → ((index : ℕ) → index < copied_of pass → IsTrue (pass_locks pass index)) → ((x : ℕ) → memory_at w history place x ≡ memory_at w history at x) → ((block : ℕ) → up_to_copy block (back history at) ≡ up_to_copy block (back history end)) → attested_bytes w (memory_at w history place) ≡ copied_bytes w (back history end)
   from_copies place at pass now count locked same last =
       copied_from (memory_at w history place) (record { each = λ block attested index x low here. same x ∙ kept_bytes at pass now count locked block attested x low here ∙ ap (λ l. memory_after w l x) (last block) })
 
@@ -124,7 +127,7 @@ up_to_older block (entry ∷ newer) older none =
 
 -- after End a pass has copied every block, and a block's last Copy stays
 record StillCopied (w : Setting) (history : List Entry) (end at : ℕ) (pass : Pass) : Type 0 where
-  count : copied_of pass ≡ w.attested
+  count : copied_of pass ≡ total w.ranges
   last : (block : ℕ) → up_to_copy block (back history at) ≡ up_to_copy block (back history end)
 
 -- since no Copy comes after an End
@@ -165,32 +168,32 @@ end_released history form number start end release e r order newest =
     ]
 
 -- the law, discipline by discipline
-pub copied_at : (w : Setting) → IsSetting w → (history : List Entry) → IsLegal w history → (form : Discipline) (number start end release : ℕ) → EndsAt history form number start end → (IsTrue (is_extended form) → ReleasesAt history form number start release) → (place : ℕ) → IsInstant form start end release place → attested_bytes w (memory_at w history place) ≡ copied_bytes w (back history end)
-copied_at w v history legal All number start end release e r place instant =
+pub copied_at : (w : Setting) → IsSetting w → StandAtIndexes w.ranges → (history : List Entry) → IsLegal w history → (form : Discipline) (number start end release : ℕ) → EndsAt history form number start end → (IsTrue (is_extended form) → ReleasesAt history form number start release) → (place : ℕ) → IsInstant form start end release place → attested_bytes w (memory_at w history place) ≡ copied_bytes w (back history end)
+copied_at w v stand history legal All number start end release e r place instant =
     let t = end_window w history legal All number start end e place instant.0 instant.1 in
     let locked = λ (index : ℕ). lock_all t.pass.discipline t.here.discipline (copied_of t.pass) (is_ended t.pass) (is_released t.pass) index t.none in
-    from_start w v history legal All number start end e refl is_end place t locked
-copied_at w v history legal AllExt number start end release e r place instant =
+    from_start w v stand history legal All number start end e refl is_end place t locked
+copied_at w v stand history legal AllExt number start end release e r place instant =
     let later = start_released history AllExt number start release (r refl) in
     let t = release_window w history legal AllExt number start start release (r refl) (omega arith) later place instant.0 instant.1 in
     let locked = λ (index : ℕ). lock_all_ext t.pass.discipline t.here.discipline (copied_of t.pass) (is_ended t.pass) (is_released t.pass) index t.none in
-    from_start w v history legal AllExt number start end e refl is_release place t locked
-copied_at w v history legal Dec number start end release e r place instant =
-    let same = λ (block : ℕ) (attested : IsTrue (is_attested w block)) (x : ℕ) (low : w.layout.base ≤ x) (here : block_of w.layout x ≡ block). ap (λ p. memory_at w history p x) instant in
-    copied_from w v history legal Dec number start end e (memory_at w history place) (copies_of_start w v history legal Dec number start end e refl place same)
-copied_at w v history legal Inc number start end release e r place instant =
+    from_start w v stand history legal AllExt number start end e refl is_release place t locked
+copied_at w v stand history legal Dec number start end release e r place instant =
+    let same = λ (block : ℕ) (attested : IsTrue (is_attested w.ranges block)) (x : ℕ) (low : w.layout.base ≤ x) (here : block_of w.layout x ≡ block). ap (λ p. memory_at w history p x) instant in
+    copied_from w v stand history legal Dec number start end e (memory_at w history place) (copies_of_start w v stand history legal Dec number start end e refl place same)
+copied_at w v stand history legal Inc number start end release e r place instant =
     let c = closed_at is_end history Inc number start end e.pass e.here e.newest in
     let o = end_order w c.entry.act c.earlier c.kind (followed w history legal end c.before c.entry c.earlier c.whole c.here.last) in
     let locked = λ (index : ℕ) (below : index < copied_of c.earlier). lock_inc c.earlier.discipline c.here.discipline (copied_of c.earlier) (is_ended c.earlier) (is_released c.earlier) index o.0 below in
     let puts = λ (x : ℕ). (end_puts c.entry.act c.kind x).0 in
     let same = λ (x : ℕ). ap (λ p. memory_at w history p x) instant ∙ closed_same w history Inc number start end e.pass is_end c puts x in
     let last = λ (block : ℕ). sym (up_to_same block c.entry (back history c.before) (not_copied block c.entry.act (end_puts c.entry.act c.kind 0).1)) ∙ ap (up_to_copy block) (sym c.whole) in
-    from_copies w v history legal Inc number start end e place c.before c.earlier c.here o.1 locked same last
-copied_at w v history legal IncExt number start end release e r place instant =
+    from_copies w v stand history legal Inc number start end e place c.before c.earlier c.here o.1 locked same last
+copied_at w v stand history legal IncExt number start end release e r place instant =
     let began = starts_before history IncExt number start end e.pass e.here in
     let order : end ≤ release = le_trans instant.0 instant.1 in
     let later = end_released history IncExt number start end release e (r refl) order in
     let t = release_window w history legal IncExt number start end release (r refl) began later place instant.0 instant.1 in
     let still = still_copied w v history legal IncExt number start end e t.at t.pass t.here t.from in
     let locked = λ (index : ℕ) (below : index < copied_of t.pass). lock_inc_ext t.pass.discipline t.here.discipline (copied_of t.pass) (is_ended t.pass) (is_released t.pass) index t.none below in
-    from_copies w v history legal IncExt number start end e place t.at t.pass t.here still.count locked t.same still.last
+    from_copies w v stand history legal IncExt number start end e place t.at t.pass t.here still.count locked t.same still.last

@@ -1,3 +1,4 @@
+pub mod Indexes
 pub mod Stores
 pub mod Passes
 pub mod Slide

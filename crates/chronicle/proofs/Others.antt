@@ -7,6 +7,7 @@ use Rattle.history.specs.declared.events.Discipline.{Discipline}
 use Rattle.history.specs.declared.events.Act.{Act}
 use Rattle.history.specs.declared.events.Act.TheVariants.{Fetch, Load, Store, Start, Copy, End, Tick, Release}
 use Rattle.history.specs.declared.events.Entry.{Entry}
+use Rattle.history.specs.Attested.{total}
 use Rattle.history.specs.Layout.{Setting}
 use Rattle.history.specs.Memory.{back, own}
 use Rattle.history.specs.Pass.{Pass, longer, pass_step, pass_after, start_of, copied_of, copies_in, is_ended, is_released, is_copy, is_end, is_release}
@@ -188,7 +189,7 @@ pub bytes_at_end : (w : Setting) (history : List Entry) (entry : Entry) (more : 
 bytes_at_end w history entry more is = ap (copied_bytes w) (back_at history entry more) ∙ ap (λ act. copied_step w act (reverse history) (copied_bytes w (reverse history))) is
 
 -- a pass that has ended has copied every attested block, and its End comes after its Start
-pub ended_whole : (w : Setting) (history : List Entry) → IsLegal w history → (form : Discipline) (number start end : ℕ) (e : EndsAt history form number start end) → (copied_of e.pass ≡ w.attested) × (start < end)
+pub ended_whole : (w : Setting) (history : List Entry) → IsLegal w history → (form : Discipline) (number start end : ℕ) (e : EndsAt history form number start end) → (copied_of e.pass ≡ total w.ranges) × (start < end)
 ended_whole w history legal form number start end e =
     let c = closed_at is_end history form number start end e.pass e.here e.newest in
     let began = starts_before history form number start c.before c.earlier c.here in

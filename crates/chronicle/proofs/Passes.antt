@@ -1,19 +1,21 @@
 -- A pass from one entry to the next.
 use Rattle.std.proofs.Common.{◌≡◌, ℕ, suc, ◌<◌, ◌≤◌, Bool, true, false, not, List, [], ◌∷◌, ◌++◌, length, Option, Some, None, option_map, refl, sym, ap, ◌∙◌, subst, inl, inr, arith, ap₂, length-append}
-use Rattle.std.specs.Prelude.{◌&&◌, ◌⊎◌, IsTrue, nat_le}
+use Rattle.std.specs.Prelude.{◌&&◌, ◌==◌, ◌⊎◌, IsTrue, nat_le}
 use Rattle.std.specs.List.{list_any}
-use Rattle.std.proofs.lemmas.Bool.{and_parts, false≢true, not-true, eqb-true, leb-true, ltb-true, le-leb, lt-ltb}
+use Rattle.std.proofs.lemmas.Bool.{and_parts, false≢true, not-true, eqb-true, leb-true, le-leb, lt-ltb}
 use Rattle.history.specs.declared.events.Discipline.{Discipline}
 use Rattle.history.specs.declared.events.Discipline.TheVariants.{All, AllExt, Dec, Inc, IncExt}
 use Rattle.history.specs.declared.events.Act.{Act}
 use Rattle.history.specs.declared.events.Act.TheVariants.{Fetch, Load, Store, Start, Copy, End, Tick, Release}
 use Rattle.history.specs.declared.events.Entry.{Entry}
+use Rattle.history.specs.Attested.{is_attested, index_of, total}
 use Rattle.history.specs.Layout.{Setting}
 use Rattle.history.specs.Pass.{Pass, longer, pass_step, pass_after, start_of, copied_of, copies_in, is_ended, is_released, is_end, is_release}
 use Rattle.history.specs.Instants.{is_newest}
 use Rattle.history.specs.Locks.{locks}
 use Rattle.history.specs.Legal.{IsLegalBack, in_order}
 use Rattle.history.specs.Sliding.{locks_at_start}
+use Rattle.chronicle.proofs.Indexes.{index_fits}
 
 -- an entry of this actor and act
 abbrev pub entry_of : ℕ → Act → Entry
@@ -108,9 +110,9 @@ closes test (entry ∷ past) pass h newest =
 
 -- End comes after the last Copy, and Release after End; there are no more copies than attested blocks
 pub record InTurn (w : Setting) (pass : Pass) : Type 0 where
-  pub whole : IsTrue (is_ended pass) → copied_of pass ≡ w.attested
+  pub whole : IsTrue (is_ended pass) → copied_of pass ≡ total w.ranges
   pub ended : IsTrue (is_released pass) → IsTrue (is_ended pass)
-  pub few : copied_of pass ≤ w.attested
+  pub few : copied_of pass ≤ total w.ranges
 
 -- the order rule keeps this
 in_turn_on : (w : Setting) (actor : ℕ) (act : Act) (earlier : Pass) → InTurn w earlier → IsTrue (in_order w (Some earlier) act) → InTurn w (longer (entry_of actor act) earlier)
@@ -120,8 +122,11 @@ in_turn_on w actor (Store addr width value) earlier t o = record { whole = t.who
 in_turn_on w actor (Start discipline counter) earlier t o = record { whole = t.whole; ended = t.ended; few = t.few }
 in_turn_on w actor Tick earlier t o = record { whole = t.whole; ended = t.ended; few = t.few }
 in_turn_on w actor (Copy block) earlier t o =
-    let running = not-true _ (and_parts _ _ (and_parts _ _ o).0).0 in
-    record { whole = λ e. absurd (false≢true (sym running ∙ e)); ended = t.ended; few = ltb-true _ _ (and_parts _ _ (and_parts _ _ o).0).1 }
+    let parts = and_parts (not (is_ended earlier) && is_attested w.ranges block) (index_of w.ranges block == copied_of earlier) o in
+    let first = and_parts (not (is_ended earlier)) (is_attested w.ranges block) parts.0 in
+    let running = not-true _ first.0 in
+    let below = index_fits w.ranges block first.1 in
+    record { whole = λ e. absurd (false≢true (sym running ∙ e)); ended = t.ended; few = omega (arith, below, eqb-true _ _ parts.1) }
 in_turn_on w actor End earlier t o = record { whole = λ _. eqb-true _ _ (and_parts _ _ o).1; ended = λ _. refl; few = t.few }
 in_turn_on w actor Release earlier t o =
     let over = (and_parts _ _ (and_parts _ _ o).0).1 in

@@ -8,6 +8,7 @@ use Rattle.history.specs.declared.events.Discipline.{Discipline}
 use Rattle.history.specs.declared.events.Act.{Act}
 use Rattle.history.specs.declared.events.Act.TheVariants.{Fetch, Load, Store, Start, Copy, End, Tick, Release}
 use Rattle.history.specs.declared.events.Entry.{Entry}
+use Rattle.history.specs.Attested.{total}
 use Rattle.history.specs.Layout.{Setting}
 use Rattle.history.specs.Memory.{back, memory_after, memory_at, put_at}
 use Rattle.history.specs.Pass.{Pass, longer, pass_after, start_of, copied_of, is_ended, is_released, is_copy, is_end, is_release, is_extended}
@@ -96,8 +97,8 @@ closed_at test history form number start place pass here newest =
     }
 
 -- an End comes once every block is copied, and no second one
-pub end_order : (w : Setting) (act : Act) (pass : Pass) → IsTrue (is_end act) → IsTrue (in_order w (Some pass) act) → (is_ended pass ≡ false) × (copied_of pass ≡ w.attested)
-end_order w End pass is order = let o = and_parts (not (is_ended pass)) (copied_of pass == w.attested) order in (not-true _ o.0, eqb-true _ _ o.1)
+pub end_order : (w : Setting) (act : Act) (pass : Pass) → IsTrue (is_end act) → IsTrue (in_order w (Some pass) act) → (is_ended pass ≡ false) × (copied_of pass ≡ total w.ranges)
+end_order w End pass is order = let o = and_parts (not (is_ended pass)) (copied_of pass == total w.ranges) order in (not-true _ o.0, eqb-true _ _ o.1)
 end_order w (Fetch addr value) pass is order = absurd (false≢true is)
 end_order w (Load addr width value) pass is order = absurd (false≢true is)
 end_order w (Store addr width value) pass is order = absurd (false≢true is)

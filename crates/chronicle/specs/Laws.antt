@@ -1,14 +1,15 @@
 -- What the laws say: memory that goes on from an earlier place, the first break of a rule, and a pass as
 -- its measurer follows it.
-use Rattle.std.specs.Prelude.{◌≡◌, ℕ, ◌-◌, ◌≤◌, Bool, true, false, ◌==◌, List, [], ◌∷◌, length, reverse, take, drop, slice_get, Some, unwrap_or}
+use Rattle.std.specs.Prelude.{◌≡◌, ℕ, ◌+◌, ◌-◌, ◌≤◌, Bool, true, false, ◌==◌, List, [], ◌∷◌, ◌++◌, length, reverse, take, drop, slice_get, Some, unwrap_or}
 use Rattle.history.specs.declared.events.Act.{Act}
 use Rattle.history.specs.declared.events.Act.TheVariants.{Fetch, Load, Store, Start, Copy, End, Tick, Release}
 use Rattle.history.specs.declared.events.Entry.{Entry}
 use Rattle.history.specs.Layout.{Setting}
 use Rattle.history.specs.Memory.{Memory, back, put_at}
-use Rattle.history.specs.Pass.{Pass, pass_after, copied_of, is_ended, is_released}
+use Rattle.history.specs.Pass.{Pass, pass_after, start_of, copied_of, is_ended, is_released}
 use Rattle.history.specs.Legal.{IsLegal}
 use Rattle.history.specs.Copied.{copied_bytes}
+use Rattle.history.specs.Instants.{EndsAt, ReleasesAt}
 use Rattle.history.specs.Broken.{Break, broken_rule}
 use Rattle.lock_plan.specs.declared.steps.PlanStep.{PlanStep}
 use Rattle.lock_plan.specs.declared.steps.PlanStep.TheVariants as next
@@ -53,9 +54,21 @@ pub record KeepsPass (w : Setting) (old new : List Entry) (pass : Pass) : Type 0
   pub same : SamePass pass now
   pub bytes : copied_bytes w (reverse new) ≡ copied_bytes w (reverse old)
 
+-- an End after a history with a pass ends that pass there, however the history goes on
+abbrev pub EndsThere : Type 0
+EndsThere = (history : List Entry) (entry : Entry) (more : List Entry) (pass : Pass) → pass_after (reverse history) ≡ Some pass → entry.act ≡ End → EndsAt (history ++ entry ∷ more) pass.discipline pass.counter (start_of pass) (length history + 1)
+
+-- an End copies nothing
+abbrev pub EndCopiesNone : Type 0
+EndCopiesNone = (w : Setting) (history : List Entry) (entry : Entry) (more : List Entry) → entry.act ≡ End → copied_bytes w (back (history ++ entry ∷ more) (length history + 1)) ≡ copied_bytes w (reverse history)
+
+-- a Release after a history with a pass releases that pass there
+abbrev pub ReleasesThere : Type 0
+ReleasesThere = (history : List Entry) (entry : Entry) (more : List Entry) (pass : Pass) → pass_after (reverse history) ≡ Some pass → entry.act ≡ Release → ReleasesAt (history ++ entry ∷ more) pass.discipline pass.counter (start_of pass) (length history + 1)
+
 -- the plan after a history
-abbrev pub plan_of : Setting → List Entry → PlanState
-plan_of w history = plan_after w.first w.attested (reverse history)
+abbrev pub lock_plan_of : Setting → List Entry → PlanState
+lock_plan_of w history = plan_after w.ranges (reverse history)
 
 -- the plan once this act has come
 abbrev pub plan_step : Act → PlanState → PlanState

@@ -22,6 +22,13 @@ IsApplication low high = (1 ≤ low) × (low ≤ 8) × (high ≡ low + 1)
 abbrev pub IsMeasurer : ℕ → ℕ → Type 0
 IsMeasurer low high = (low ≡ 0) × (high ≡ 1)
 
+-- No call changes what the port is a port of, its world, or for whom it speaks.
+pub record KeepsPort {Owner : Type 0} (owner_old owner_new : Owner) (world_old world_new : Setting) (low_old low_new high_old high_new : ℕ) : Type 0 where
+  pub owner : owner_new ≡ owner_old
+  pub world : world_new ≡ world_old
+  pub low : low_new ≡ low_old
+  pub high : high_new ≡ high_old
+
 -- the entry's actor is outside the range
 abbrev pub IsBeyond : ℕ → ℕ → Entry → Type 0
 IsBeyond low high entry = (entry.actor < low) ⊎ (high ≤ entry.actor)
@@ -33,7 +40,7 @@ pub record OthersFollow (low high : ℕ) (old new : List Entry) : Type 0 where
   pub beyond : All (IsBeyond low high) rest
 
 -- the list has grown by entries of others and then by this one
-pub record Adds (low high : ℕ) (old new : List Entry) (entry : Entry) : Type 0 where
+pub record AddsEntry (low high : ℕ) (old new : List Entry) (entry : Entry) : Type 0 where
   pub between : List Entry
   pub whole : new ≡ old ++ between ++ entry ∷ []
   pub beyond : All (IsBeyond low high) between
@@ -44,7 +51,7 @@ entry_by actor act = record { actor = actor; act = act }
 
 -- The call made its entry, which is the last of the list: so the list's length is its place.
 abbrev pub IsDone : ℕ → ℕ → List Entry → List Entry → Act → ℕ → Type 0
-IsDone low high old new act place = Adds low high old new (entry_by low act) × (place ≡ length new)
+IsDone low high old new act place = AddsEntry low high old new (entry_by low act) × (place ≡ length new)
 
 -- The call found the history full, and made no entry.
 abbrev pub IsFull : Setting → ℕ → ℕ → List Entry → List Entry → ℕ → Type 0
@@ -76,6 +83,21 @@ ReadsWithin width (read.Done value place) = value < 256 ^ width_bytes width
 ReadsWithin width (read.Full place) = Unit {0}
 
 -- where the copy was made, the buffer has the block's bytes at the copy's own place; else it is as it was
-abbrev pub HasCopied : Setting → List Entry → ℕ → List ℕ → List ℕ → Step → Type 0
-HasCopied w new block before after (step.Done place) = after ≡ block_bytes w (memory_after w (reverse new)) block
-HasCopied w new block before after (step.Full place) = after ≡ before
+abbrev pub FillsBuffer : Setting → List Entry → ℕ → List ℕ → List ℕ → Step → Type 0
+FillsBuffer w new block before after (step.Done place) = after ≡ block_bytes w (memory_after w (reverse new)) block
+FillsBuffer w new block before after (step.Full place) = after ≡ before
+
+-- What the answer says where nobody but the port makes entries: the list is the old one with the call's own entry,
+-- or the old one. The act of a fetch or a load is the one with the value that was read.
+abbrev pub ReadsAlone : ℕ → List Entry → List Entry → (ℕ → Act) → Read → Type 0
+ReadsAlone low old new act (read.Done value place) = new ≡ old ++ entry_by low (act value) ∷ []
+ReadsAlone low old new act (read.Full place) = new ≡ old
+
+abbrev pub StoresAlone : ℕ → List Entry → List Entry → Act → Stored → Type 0
+StoresAlone low old new act (store.Done place) = new ≡ old ++ entry_by low act ∷ []
+StoresAlone low old new act (store.Again place) = new ≡ old
+StoresAlone low old new act (store.Full place) = new ≡ old
+
+abbrev pub StepsAlone : ℕ → List Entry → List Entry → Act → Step → Type 0
+StepsAlone low old new act (step.Done place) = new ≡ old ++ entry_by low act ∷ []
+StepsAlone low old new act (step.Full place) = new ≡ old

@@ -1,6 +1,7 @@
 -- A world by its parts.
 use Rattle.std.specs.Prelude.{ℕ, List}
+use Rattle.history.specs.declared.ranges.Range.{Range}
 use Rattle.history.specs.Layout.{Layout, Setting}
 
-abbrev pub setting_of : Layout → ℕ → ℕ → List ℕ → ℕ → Setting
-setting_of layout first attested image cap = record { layout = layout; first = first; attested = attested; image = image; cap = cap }
+abbrev pub setting_of : Layout → List Range → List ℕ → ℕ → Setting
+setting_of layout ranges image cap = record { layout = layout; ranges = ranges; image = image; cap = cap }

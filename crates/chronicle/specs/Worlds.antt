@@ -6,7 +6,7 @@ use Rattle.chronicle.specs.declared.worlds.Shape.{Shape}
 
 -- where the attested blocks lie
 abbrev pub shape_of : Setting → Shape
-shape_of w = record { base = w.layout.base; size = w.layout.size; first = w.first; attested = w.attested }
+shape_of w = record { base = w.layout.base; size = w.layout.size; ranges = w.ranges }
 
 -- a world with a list of entries, the oldest first; the list needn't be legal
 pub record Recorded : Type 0 where

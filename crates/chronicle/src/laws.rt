@@ -4,8 +4,8 @@ ghost use Rattle.std.specs.Prelude.{◌≡◌, ℕ, ◌+◌, ◌^◌, ◌<◌, �
 ghost use Rattle.history.specs.declared.events.Width.{Width};
 ghost use Rattle.history.specs.declared.events.Discipline.{Discipline};
 ghost use Rattle.history.specs.declared.events.Act.{Act};
-ghost use Rattle.history.specs.declared.events.Act.TheVariants.{End, Release};
 ghost use Rattle.history.specs.declared.events.Entry.{Entry};
+ghost use Rattle.history.specs.Attested.{total};
 ghost use Rattle.history.specs.Layout.{Setting, IsSetting, width_bytes};
 ghost use Rattle.history.specs.Memory.{Memory, back, memory_after, memory_at, own, value_in};
 ghost use Rattle.history.specs.Pass.{Pass, copied_of, is_released, pass_after, pass_step, start_of};
@@ -15,8 +15,10 @@ ghost use Rattle.history.specs.Copied.{copied_bytes, copied_step};
 ghost use Rattle.history.specs.Instants.{EndsAt, ReleasesAt};
 ghost use Rattle.history.specs.Sliding.{LocksSlide, CopiedIsMemory};
 ghost use Rattle.lock_plan.specs.Plans.{next_step};
-ghost use Rattle.chronicle.specs.Laws.{IsFirstBreak, KeepsPass, between, is_next, patched, plan_of, plan_step, stored};
-ghost use Rattle.chronicle.specs.Ports.{Adds, OthersFollow};
+ghost use Rattle.chronicle.specs.Laws.{EndCopiesNone, EndsThere, ReleasesThere, IsFirstBreak, KeepsPass, between, is_next, patched, lock_plan_of, plan_step, stored};
+ghost use Rattle.chronicle.specs.Ports.{AddsEntry, OthersFollow};
+
+use history::blocks_in_order;
 
 /// The entries before a place, as the definitions look back over them: how many they are, the one
 /// that each place adds, and that later entries change none of them.
@@ -104,7 +106,9 @@ pub fn broken_is_exact()
 /// isn't locked.
 pub fn locks_slide()
     ensures { LocksSlide }
-{}
+{
+    blocks_in_order();
+}
 
 /// At each instant of a pass the attested memory is what the pass has copied, block by block, up to
 /// its End.
@@ -115,7 +119,9 @@ pub fn locks_slide()
 /// Release change no byte, so their own places still count.
 pub fn copied_is_memory()
     ensures { CopiedIsMemory }
-{}
+{
+    blocks_in_order();
+}
 
 /// What the measurer knows of its pass stays true while others make their entries: where no new entry
 /// is actor 0's, the pass is the same, with the same copies, and where there was none there is none.
@@ -141,33 +147,26 @@ pub fn places_of_a_pass()
         → copied_bytes w (reverse (history ++ entry ∷ []))
         ≡ copied_step w entry.act (reverse history) (copied_bytes w (reverse history)) }
 
-    ensures ends { (history : List Entry) (entry : Entry) (more : List Entry) (pass : Pass)
-        → pass_after (reverse history) ≡ Some pass → entry.act ≡ End
-        → EndsAt (history ++ entry ∷ more)
-        pass.discipline pass.counter (start_of pass) (length history + 1) }
-    ensures end_bytes { (w : Setting) (history : List Entry) (entry : Entry) (more : List Entry)
-        → entry.act ≡ End
-        → copied_bytes w (back (history ++ entry ∷ more) (length history + 1))
-        ≡ copied_bytes w (reverse history) }
-    ensures releases { (history : List Entry) (entry : Entry) (more : List Entry) (pass : Pass)
-        → pass_after (reverse history) ≡ Some pass → entry.act ≡ Release
-        → ReleasesAt (history ++ entry ∷ more)
-        pass.discipline pass.counter (start_of pass) (length history + 1) }
+    ensures ends { EndsThere }
+    ensures end_bytes { EndCopiesNone }
+    ensures releases { ReleasesThere }
     ensures unreleased { (history : List Entry) (pass : Pass)
         → pass_after (reverse history) ≡ Some pass → is_released pass ≡ false
         → ReleasesAt history pass.discipline pass.counter (start_of pass) (length history) }
 
     ensures whole { (w : Setting) (history : List Entry) → IsLegal w history
         → (form : Discipline) (number start end : ℕ) → (e : EndsAt history form number start end)
-        → (copied_of e.pass ≡ w.attested) × (start < end) }
+        → (copied_of e.pass ≡ total w.ranges) × (start < end) }
 {}
 
 /// What the order rule allows is what the plan of the pass names next. So who knows the plan knows which
 /// step is in order.
 pub fn order_by_plan()
-    ensures { (w : Setting) (history : List Entry) → IsLegal w history → (act : Act)
-        → in_order w (pass_after (reverse history)) act ≡ is_next (next_step (plan_of w history)) act }
-{}
+    ensures { (w : Setting) → IsSetting w → (history : List Entry) → IsLegal w history → (act : Act)
+        → in_order w (pass_after (reverse history)) act ≡ is_next (next_step (lock_plan_of w history)) act }
+{
+    blocks_in_order();
+}
 
 /// Entries of others change neither the order nor the plan of a pass: both are those of the measurer's
 /// own entries. So a measurer that has seen others' entries may take the step that was in order before.
@@ -180,17 +179,17 @@ pub fn others_keep_the_order()
         → in_order w (pass_after (reverse history)) act
         ≡ in_order w (pass_after (reverse (own history 0 1))) act }
     ensures own_plan { (w : Setting) (history : List Entry) → IsLegal w history
-        → plan_of w history ≡ plan_of w (own history 0 1) }
+        → lock_plan_of w history ≡ lock_plan_of w (own history 0 1) }
 {}
 
 /// What the answers of a measurer's port say of the plan: others' entries leave it as it is, and the
 /// own entry changes it as its act does.
 pub fn answers_move_the_plan()
     ensures others { (w : Setting) (old new : List Entry) → IsLegal w new → OthersFollow 0 1 old new
-        → plan_of w new ≡ plan_of w old }
+        → lock_plan_of w new ≡ lock_plan_of w old }
     ensures added { (w : Setting) (old new : List Entry) (entry : Entry)
-        → IsLegal w new → Adds 0 1 old new entry
-        → plan_of w new ≡ plan_step entry.act (plan_of w old) }
+        → IsLegal w new → AddsEntry 0 1 old new entry
+        → lock_plan_of w new ≡ plan_step entry.act (lock_plan_of w old) }
 {}
 
 /// What the answers of a port say of the entries of its own range: others' entries add none to them, and
@@ -199,13 +198,13 @@ pub fn answers_add_own_entries()
     ensures others { (low high : ℕ) (old new : List Entry) → OthersFollow low high old new
         → own new low high ≡ own old low high }
     ensures added { (low high : ℕ) (old new : List Entry) (entry : Entry)
-        → Adds low high old new entry → low ≤ entry.actor → entry.actor < high
+        → AddsEntry low high old new entry → low ≤ entry.actor → entry.actor < high
         → own new low high ≡ own old low high ++ entry ∷ [] }
     ensures none { (low high : ℕ) (history : List Entry) → OthersFollow low high history history }
     ensures others_join { (low high : ℕ) (first second third : List Entry)
         → OthersFollow low high first second → OthersFollow low high second third
         → OthersFollow low high first third }
     ensures added_join { (low high : ℕ) (first second third : List Entry) (entry : Entry)
-        → OthersFollow low high first second → Adds low high second third entry
-        → Adds low high first third entry }
+        → OthersFollow low high first second → AddsEntry low high second third entry
+        → AddsEntry low high first third entry }
 {}

@@ -12,7 +12,7 @@ ghost use Rattle.history.specs.Layout.{Setting, IsSetting, fits, is_aligned, blo
 ghost use Rattle.history.specs.Pass.{pass_after};
 ghost use Rattle.history.specs.Legal.{IsLegal, in_order};
 ghost use Rattle.chronicle.specs.Worlds.{shape_of};
-ghost use Rattle.chronicle.specs.Ports.{IsApplication, IsMeasurer, HasRead, HasStored, HasStepped, HasCopied, ReadsWithin};
+ghost use Rattle.chronicle.specs.Ports.{IsApplication, IsMeasurer, KeepsPort, HasRead, HasStored, HasStepped, FillsBuffer, ReadsWithin, ReadsAlone, StoresAlone, StepsAlone};
 
 use crate::answers::{Read, Step, Stored};
 use crate::worlds::Shape;
@@ -36,37 +36,44 @@ pub trait Viewed {
     ghost low: { Self → ℕ };
 
     ghost high: { Self → ℕ };
+
+    // holds where nobody but this port makes entries, as over a core with one owner
+    ghost alone: { Type 0 } = { ⊥ };
 }
 
 /// A port of an application: accesses to memory, each of which is one entry of the history.
 pub trait MemPort: Viewed {
+    /// The first actor that the port speaks for, and the only one where it is an application's. This makes no entry.
+    fn actor(&self) -> u32
+        ensures { result ≡ Self.low self.now };
+
     /// Fetches the instruction word at the address.
     fn fetch(&mut self, addr: u32) -> Read
         requires actor { IsApplication (Self.low self.old) (Self.high self.old) }
         requires fits { IsTrue (fits (Self.world self.old).layout addr Word) }
         requires aligned { IsTrue (is_aligned addr Word) }
-        ensures owner { Self.owner self.new ≡ Self.owner self.old }
-        ensures world { Self.world self.new ≡ Self.world self.old }
-        ensures low { Self.low self.new ≡ Self.low self.old }
-        ensures high { Self.high self.new ≡ Self.high self.old }
+        ensures port { KeepsPort (Self.owner self.old) (Self.owner self.new) (Self.world self.old) (Self.world self.new)
+            (Self.low self.old) (Self.low self.new) (Self.high self.old) (Self.high self.new) }
         ensures setting { IsSetting (Self.world self.new) }
         ensures legal { IsLegal (Self.world self.new) (Self.seen self.new) }
         ensures answer { HasRead (Self.world self.old) (Self.low self.old) (Self.high self.old)
-            (Self.seen self.old) (Self.seen self.new) (act.Fetch addr) result };
+            (Self.seen self.old) (Self.seen self.new) (act.Fetch addr) result }
+        ensures alone { Self.alone
+            → ReadsAlone (Self.low self.old) (Self.seen self.old) (Self.seen self.new) (act.Fetch addr) result };
 
     /// Loads `width` bytes from the address on, the lowest byte first, filled with zeros.
     fn load(&mut self, addr: u32, width: Width) -> Read
         requires actor { IsApplication (Self.low self.old) (Self.high self.old) }
         requires fits { IsTrue (fits (Self.world self.old).layout addr width) }
         requires aligned { IsTrue (is_aligned addr width) }
-        ensures owner { Self.owner self.new ≡ Self.owner self.old }
-        ensures world { Self.world self.new ≡ Self.world self.old }
-        ensures low { Self.low self.new ≡ Self.low self.old }
-        ensures high { Self.high self.new ≡ Self.high self.old }
+        ensures port { KeepsPort (Self.owner self.old) (Self.owner self.new) (Self.world self.old) (Self.world self.new)
+            (Self.low self.old) (Self.low self.new) (Self.high self.old) (Self.high self.new) }
         ensures setting { IsSetting (Self.world self.new) }
         ensures legal { IsLegal (Self.world self.new) (Self.seen self.new) }
         ensures answer { HasRead (Self.world self.old) (Self.low self.old) (Self.high self.old)
             (Self.seen self.old) (Self.seen self.new) (act.Load addr width) result }
+        ensures alone { Self.alone
+            → ReadsAlone (Self.low self.old) (Self.seen self.old) (Self.seen self.new) (act.Load addr width) result }
         ensures small { ReadsWithin width result };
 
     /// Stores the lowest `width` bytes of the value from the address on, the lowest byte first. `Again`
@@ -76,15 +83,15 @@ pub trait MemPort: Viewed {
         requires fits { IsTrue (fits (Self.world self.old).layout addr width) }
         requires aligned { IsTrue (is_aligned addr width) }
         requires small { value < 256 ^ width_bytes width }
-        ensures owner { Self.owner self.new ≡ Self.owner self.old }
-        ensures world { Self.world self.new ≡ Self.world self.old }
-        ensures low { Self.low self.new ≡ Self.low self.old }
-        ensures high { Self.high self.new ≡ Self.high self.old }
+        ensures port { KeepsPort (Self.owner self.old) (Self.owner self.new) (Self.world self.old) (Self.world self.new)
+            (Self.low self.old) (Self.low self.new) (Self.high self.old) (Self.high self.new) }
         ensures setting { IsSetting (Self.world self.new) }
         ensures legal { IsLegal (Self.world self.new) (Self.seen self.new) }
         ensures answer { HasStored (Self.world self.old) (Self.low self.old) (Self.high self.old)
             (Self.seen self.old) (Self.seen self.new) (act.Store addr width value)
-            (block_of (Self.world self.old).layout addr) result };
+            (block_of (Self.world self.old).layout addr) result }
+        ensures alone { Self.alone
+            → StoresAlone (Self.low self.old) (Self.seen self.old) (Self.seen self.new) (act.Store addr width value) result };
 }
 
 /// The port of the measurer: the steps of a pass, each of which is one entry of the history.
@@ -102,14 +109,14 @@ pub trait BlockPort: Viewed {
         requires actor { IsMeasurer (Self.low self.old) (Self.high self.old) }
         requires order { IsTrue (in_order (Self.world self.old) (pass_after (reverse (Self.seen self.old)))
             (act.Start discipline counter)) }
-        ensures owner { Self.owner self.new ≡ Self.owner self.old }
-        ensures world { Self.world self.new ≡ Self.world self.old }
-        ensures low { Self.low self.new ≡ Self.low self.old }
-        ensures high { Self.high self.new ≡ Self.high self.old }
+        ensures port { KeepsPort (Self.owner self.old) (Self.owner self.new) (Self.world self.old) (Self.world self.new)
+            (Self.low self.old) (Self.low self.new) (Self.high self.old) (Self.high self.new) }
         ensures setting { IsSetting (Self.world self.new) }
         ensures legal { IsLegal (Self.world self.new) (Self.seen self.new) }
         ensures answer { HasStepped (Self.world self.old) (Self.low self.old) (Self.high self.old)
-            (Self.seen self.old) (Self.seen self.new) (act.Start discipline counter) result };
+            (Self.seen self.old) (Self.seen self.new) (act.Start discipline counter) result }
+        ensures alone { Self.alone
+            → StepsAlone (Self.low self.old) (Self.seen self.old) (Self.seen self.new) (act.Start discipline counter) result };
 
     /// Copies a block into the buffer, by rising address.
     fn copy(&mut self, block: u32, into: &mut [u8]) -> Step
@@ -117,55 +124,55 @@ pub trait BlockPort: Viewed {
         requires order { IsTrue (in_order (Self.world self.old) (pass_after (reverse (Self.seen self.old)))
             (act.Copy block)) }
         requires room { length into.old ≡ (Self.world self.old).layout.size }
-        ensures owner { Self.owner self.new ≡ Self.owner self.old }
-        ensures world { Self.world self.new ≡ Self.world self.old }
-        ensures low { Self.low self.new ≡ Self.low self.old }
-        ensures high { Self.high self.new ≡ Self.high self.old }
+        ensures port { KeepsPort (Self.owner self.old) (Self.owner self.new) (Self.world self.old) (Self.world self.new)
+            (Self.low self.old) (Self.low self.new) (Self.high self.old) (Self.high self.new) }
         ensures setting { IsSetting (Self.world self.new) }
         ensures legal { IsLegal (Self.world self.new) (Self.seen self.new) }
         ensures answer { HasStepped (Self.world self.old) (Self.low self.old) (Self.high self.old)
             (Self.seen self.old) (Self.seen self.new) (act.Copy block) result }
-        ensures bytes { HasCopied (Self.world self.old) (Self.seen self.new) block into.old into.new result };
+        ensures alone { Self.alone
+            → StepsAlone (Self.low self.old) (Self.seen self.old) (Self.seen self.new) (act.Copy block) result }
+        ensures bytes { FillsBuffer (Self.world self.old) (Self.seen self.new) block into.old into.new result };
 
     /// Ends the pass.
     fn end(&mut self) -> Step
         requires actor { IsMeasurer (Self.low self.old) (Self.high self.old) }
         requires order { IsTrue (in_order (Self.world self.old) (pass_after (reverse (Self.seen self.old)))
             act.End) }
-        ensures owner { Self.owner self.new ≡ Self.owner self.old }
-        ensures world { Self.world self.new ≡ Self.world self.old }
-        ensures low { Self.low self.new ≡ Self.low self.old }
-        ensures high { Self.high self.new ≡ Self.high self.old }
+        ensures port { KeepsPort (Self.owner self.old) (Self.owner self.new) (Self.world self.old) (Self.world self.new)
+            (Self.low self.old) (Self.low self.new) (Self.high self.old) (Self.high self.new) }
         ensures setting { IsSetting (Self.world self.new) }
         ensures legal { IsLegal (Self.world self.new) (Self.seen self.new) }
         ensures answer { HasStepped (Self.world self.old) (Self.low self.old) (Self.high self.old)
-            (Self.seen self.old) (Self.seen self.new) act.End result };
+            (Self.seen self.old) (Self.seen self.new) act.End result }
+        ensures alone { Self.alone
+            → StepsAlone (Self.low self.old) (Self.seen self.old) (Self.seen self.new) act.End result };
 
     /// Lets time go by. This is always in order.
     fn tick(&mut self) -> Step
         requires actor { IsMeasurer (Self.low self.old) (Self.high self.old) }
-        ensures owner { Self.owner self.new ≡ Self.owner self.old }
-        ensures world { Self.world self.new ≡ Self.world self.old }
-        ensures low { Self.low self.new ≡ Self.low self.old }
-        ensures high { Self.high self.new ≡ Self.high self.old }
+        ensures port { KeepsPort (Self.owner self.old) (Self.owner self.new) (Self.world self.old) (Self.world self.new)
+            (Self.low self.old) (Self.low self.new) (Self.high self.old) (Self.high self.new) }
         ensures setting { IsSetting (Self.world self.new) }
         ensures legal { IsLegal (Self.world self.new) (Self.seen self.new) }
         ensures answer { HasStepped (Self.world self.old) (Self.low self.old) (Self.high self.old)
-            (Self.seen self.old) (Self.seen self.new) act.Tick result };
+            (Self.seen self.old) (Self.seen self.new) act.Tick result }
+        ensures alone { Self.alone
+            → StepsAlone (Self.low self.old) (Self.seen self.old) (Self.seen self.new) act.Tick result };
 
     /// Gives up what an extended discipline still locks after End.
     fn release(&mut self) -> Step
         requires actor { IsMeasurer (Self.low self.old) (Self.high self.old) }
         requires order { IsTrue (in_order (Self.world self.old) (pass_after (reverse (Self.seen self.old)))
             act.Release) }
-        ensures owner { Self.owner self.new ≡ Self.owner self.old }
-        ensures world { Self.world self.new ≡ Self.world self.old }
-        ensures low { Self.low self.new ≡ Self.low self.old }
-        ensures high { Self.high self.new ≡ Self.high self.old }
+        ensures port { KeepsPort (Self.owner self.old) (Self.owner self.new) (Self.world self.old) (Self.world self.new)
+            (Self.low self.old) (Self.low self.new) (Self.high self.old) (Self.high self.new) }
         ensures setting { IsSetting (Self.world self.new) }
         ensures legal { IsLegal (Self.world self.new) (Self.seen self.new) }
         ensures answer { HasStepped (Self.world self.old) (Self.low self.old) (Self.high self.old)
-            (Self.seen self.old) (Self.seen self.new) act.Release result };
+            (Self.seen self.old) (Self.seen self.new) act.Release result }
+        ensures alone { Self.alone
+            → StepsAlone (Self.low self.old) (Self.seen self.old) (Self.seen self.new) act.Release result };
 }
 
 /// A value that keeps a history of a world.

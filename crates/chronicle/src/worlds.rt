@@ -2,6 +2,7 @@
 
 use block_memory::Geometry;
 use history::Entry;
+use lock_plan::Ranges;
 use std::marker::Model;
 
 /// The most entries that a history may have.
@@ -14,19 +15,16 @@ pub struct Shape {
     pub base: u32,
     /// The bytes of a block.
     pub size: u32,
-    /// The first attested block, numbered from the first of memory.
-    pub first: u32,
-    /// How many blocks are attested.
-    pub attested: u32,
+    /// The ranges of attested blocks, by rising address.
+    pub ranges: Ranges,
 }
 
-/// A device's memory as it begins: its geometry, the attested blocks, the bytes that memory has before the
+/// A device's memory as it begins: its geometry, the ranges of attested blocks, the bytes that memory has before the
 /// first entry, and how many entries the history may have. Clauses see it as a `Setting`.
 #[derive(Drop)]
 pub struct World {
     geometry: Geometry,
-    first: u32,
-    attested: u32,
+    ranges: Ranges,
     image: Vec<u8>,
     cap: u64,
 }
@@ -37,9 +35,9 @@ impl Model for World {
 
     ghost Value = { Setting };
 
-    ghost view = { λ w. setting_of w.geometry w.first w.attested w.image.items w.cap };
+    ghost view = { λ w. setting_of w.geometry w.ranges w.image.items w.cap };
 
-    ghost invariant = { λ w. IsSetting (setting_of w.geometry w.first w.attested w.image.items w.cap) };
+    ghost invariant = { λ w. IsSetting (setting_of w.geometry w.ranges w.image.items w.cap) };
 }
 
 impl World {
@@ -49,29 +47,21 @@ impl World {
     ghost use Rattle.chronicle.specs.Settings.{setting_of};
     ghost use Rattle.chronicle.specs.Worlds.{shape_of};
 
-    /// The world with these parts. None exactly where the image isn't as long as memory, no block is
-    /// attested, an attested block lies past memory, or the cap isn't 1 to 4,000,000.
-    pub fn new(
-        geometry: Geometry,
-        first: u32,
-        attested: u32,
-        image: Vec<u8>,
-        cap: u64,
-    ) -> Option<World>
-        ensures { let made = setting_of geometry first attested image.items cap in
+    /// The world with these parts. None exactly where the image isn't as long as memory, the last range ends past
+    /// memory, or the cap isn't 1 to 4,000,000.
+    pub fn new(geometry: Geometry, ranges: Ranges, image: Vec<u8>, cap: u64) -> Option<World>
+        ensures { let made = setting_of geometry ranges image.items cap in
             SomeIff result (IsSetting made) made }
     {
-        let blocks = u64::from(geometry.blocks());
-        if attested == 0 || u64::from(first) + u64::from(attested) > blocks {
+        if ranges.end() > geometry.blocks() || image.len() != geometry.byte_count() as usize {
             return None;
         }
-        if image.len() != geometry.byte_count() as usize || cap == 0 || cap > MOST_ENTRIES {
+        if cap == 0 || cap > MOST_ENTRIES {
             return None;
         }
         Some(World {
             geometry,
-            first,
-            attested,
+            ranges,
             image,
             cap,
         })
@@ -85,20 +75,12 @@ impl World {
         self.geometry
     }
 
-    /// The first attested block, numbered from the first of memory.
-    pub fn first(&self) -> u32
-        ensures value { result ≡ self.now.first }
+    /// The ranges of attested blocks, by rising address.
+    pub fn ranges(&self) -> &Ranges
+        ensures value { result.now ≡ self.now.ranges }
         ensures setting { IsSetting self.now }
     {
-        self.first
-    }
-
-    /// How many blocks are attested.
-    pub fn attested(&self) -> u32
-        ensures value { result ≡ self.now.attested }
-        ensures setting { IsSetting self.now }
-    {
-        self.attested
+        &self.ranges
     }
 
     /// The bytes that memory has before the first entry, by rising address.
@@ -125,8 +107,7 @@ impl World {
         Shape {
             base: self.geometry.base(),
             size: self.geometry.size(),
-            first: self.first,
-            attested: self.attested,
+            ranges: self.ranges,
         }
     }
 }

@@ -10,15 +10,16 @@ use Rattle.std.proofs.lemmas.List.Concat.{length-flat_map}
 use Rattle.std.proofs.lemmas.Grind.{flat_map-append}
 use Rattle.std.proofs.Math.Seq.{get_or-append_seam}
 use Rattle.std.proofs.Math.Nat.{mod-eq_of_lt}
-use Rattle.program.specs.declared.Program.{Program}
-use Rattle.program.specs.declared.Segment.{Segment}
+use Rattle.executable.specs.declared.Program.{Program}
+use Rattle.executable.specs.declared.Segment.{Segment}
 use Rattle.elf32.specs.declared.headers.ProgramHeader.{ProgramHeader}
 use Rattle.elf32.specs.declared.faults.ElfFault.{ElfFault}
 use Rattle.elf32.specs.declared.faults.ElfFault.TheVariants.{Short, Magic, Class, Kind, Machine, Compressed, ProgramTable, Dynamic, SegmentRange}
 use Rattle.elf32.specs.Fields.{word_at, word}
-use Rattle.elf32.specs.Files.{FileSegment, Executable, e_phoff, e_phnum, e_machine, e_version, e_phentsize, has_magic, has_class, has_kind, has_table, is_compressed, is_dynamic, is_out_of_range, is_loaded, header, headers, first_headers, loaded_headers, segment_of, first_fault, executable, unless, elf_of}
-use Rattle.elf32.specs.Written.{identity, elf_header, segment_header, segment_headers, contents, contents_start, elf_bytes, is_filled, whole, loaded, HasHeader, HasSegment}
-use Rattle.program.specs.Writable.{total_size, IsWritable}
+use Rattle.elf32.specs.Files.{FileSegment, Executable, e_phoff, e_phnum, e_machine, e_version, e_phentsize, has_magic, has_class, has_kind, has_table, is_compressed, is_dynamic, is_out_of_range, is_loaded, header, headers, first_headers, loaded_headers, segment_of, first_broken_rule, executable, elf_of}
+use Rattle.sequencing.specs.Results.{unless}
+use Rattle.elf32.specs.Written.{identity, elf_header, segment_header, segment_headers, contents, contents_start, elf_bytes, is_filled, as_loaded, loaded, HasHeader, HasSegment}
+use Rattle.executable.specs.Writable.{total_size, IsWritable}
 use Rattle.elf32.proofs.FirstHeaders.{none_yet, one_more, any_of_none, any_more}
 use Rattle.elf32.proofs.SegmentHeaders.{headers_none, headers-cons, headers-append}
 use Rattle.elf32.proofs.Stands.{Stands, stands_whole, stands_left, stands_right, stands_as, stands_bytes, stands_within, words_stand, word_read, small_read, length-words}
@@ -100,7 +101,7 @@ filled n h = grind (arith, nat_tests)
 abbrev file_segment : ℕ → ℕ → List ℕ → FileSegment
 file_segment addr size bytes = record { addr = addr; size = size; bytes = bytes }
 
-same_segment : (bytes : List ℕ) (h : ProgramHeader) (offset : ℕ) (s : Segment) → Describes bytes h offset s → s.addr + length s.bytes ≤ 2 ^ 32 → is_filled s ≡ true → segment_of bytes h ≡ whole s
+same_segment : (bytes : List ℕ) (h : ProgramHeader) (offset : ℕ) (s : Segment) → Describes bytes h offset s → s.addr + length s.bytes ≤ 2 ^ 32 → is_filled s ≡ true → segment_of bytes h ≡ as_loaded s
 same_segment bytes h offset s d ends is =
     let some : 0 < length s.bytes = filled (length s.bytes) is in
     let addr : h.p_vaddr ≡ s.addr = d.addr ∙ mod-eq_of_lt (omega (arith, some, ends)) in
@@ -115,7 +116,7 @@ same_segment bytes h offset s d ends is =
 record SoFar (bytes : List ℕ) (a : List Segment) : Type 0 where
   static : list_any is_dynamic (first_headers bytes (length a)) ≡ false
   ranges : list_any (is_out_of_range bytes) (first_headers bytes (length a)) ≡ false
-  same : map (segment_of bytes) (filter is_loaded (first_headers bytes (length a))) ≡ map whole (filter is_filled a)
+  same : map (segment_of bytes) (filter is_loaded (first_headers bytes (length a))) ≡ map as_loaded (filter is_filled a)
 
 bool_cases : (b : Bool) → (b ≡ true) ⊎ (b ≡ false)
 bool_cases true = inl refl
@@ -128,29 +129,29 @@ dropped : {X : Type 0} (p : X → Bool) (x : X) → p x ≡ false → filter p (
 dropped p x e = ap (λ (b : Bool). cond b (x ∷ []) []) e
 
 one_segment : (bytes : List ℕ) (h : ProgramHeader) (offset : ℕ) (s : Segment) → Describes bytes h offset s → s.addr + length s.bytes ≤ 2 ^ 32
-    → map (segment_of bytes) (filter is_loaded (h ∷ [])) ≡ map whole (filter is_filled (s ∷ []))
+    → map (segment_of bytes) (filter is_loaded (h ∷ [])) ≡ map as_loaded (filter is_filled (s ∷ []))
 one_segment bytes h offset s d ends =
     let test = loaded_if_filled bytes h offset s d in
     elim (bool_cases (is_filled s)) [
       | inl yes' ↦
           ap (map (segment_of bytes)) (kept is_loaded h (test ∙ yes'))
           ∙ ap (λ (t : FileSegment). t ∷ []) (same_segment bytes h offset s d ends yes')
-          ∙ sym (ap (map whole) (kept is_filled s yes'))
+          ∙ sym (ap (map as_loaded) (kept is_filled s yes'))
       | inr no' ↦
-          ap (map (segment_of bytes)) (dropped is_loaded h (test ∙ no')) ∙ sym (ap (map whole) (dropped is_filled s no'))
+          ap (map (segment_of bytes)) (dropped is_loaded h (test ∙ no')) ∙ sym (ap (map as_loaded) (dropped is_filled s no'))
     ]
 
 next_same : (bytes : List ℕ) (a : List Segment) (s : Segment) (h : ProgramHeader) (before : List ProgramHeader)
-    → map (segment_of bytes) (filter is_loaded before) ≡ map whole (filter is_filled a)
-    → map (segment_of bytes) (filter is_loaded (h ∷ [])) ≡ map whole (filter is_filled (s ∷ []))
-    → map (segment_of bytes) (filter is_loaded (before ++ h ∷ [])) ≡ map whole (filter is_filled (a ++ s ∷ []))
+    → map (segment_of bytes) (filter is_loaded before) ≡ map as_loaded (filter is_filled a)
+    → map (segment_of bytes) (filter is_loaded (h ∷ [])) ≡ map as_loaded (filter is_filled (s ∷ []))
+    → map (segment_of bytes) (filter is_loaded (before ++ h ∷ [])) ≡ map as_loaded (filter is_filled (a ++ s ∷ []))
 next_same bytes a s h before so_far here =
     ap (map (segment_of bytes)) (filter-append is_loaded before (h ∷ []))
     ∙ map-append (segment_of bytes) (filter is_loaded before) (filter is_loaded (h ∷ []))
     ∙ ap (λ (xs : List FileSegment). xs ++ map (segment_of bytes) (filter is_loaded (h ∷ []))) so_far
-    ∙ ap (λ (xs : List FileSegment). map whole (filter is_filled a) ++ xs) here
-    ∙ sym (map-append whole (filter is_filled a) (filter is_filled (s ∷ [])))
-    ∙ sym (ap (map whole) (filter-append is_filled a (s ∷ [])))
+    ∙ ap (λ (xs : List FileSegment). map as_loaded (filter is_filled a) ++ xs) here
+    ∙ sym (map-append as_loaded (filter is_filled a) (filter is_filled (s ∷ [])))
+    ∙ sym (ap (map as_loaded) (filter-append is_filled a (s ∷ [])))
 
 next : (bytes : List ℕ) (a : List Segment) (s : Segment) (offset : ℕ) → Describes bytes (header bytes (length a)) offset s → s.addr + length s.bytes ≤ 2 ^ 32 → SoFar bytes a → SoFar bytes (a ++ s ∷ [])
 next bytes a s offset d ends so_far =
@@ -242,8 +243,8 @@ kind_tests bytes entry count f = (
 
 -- a file with these fields, whose headers are all sound, breaks no rule
 no_fault : (bytes : List ℕ) (entry count : ℕ) → HasHeader bytes entry count → Stands bytes 0 identity → 1 ≤ count → count ≤ 64 → 52 + 32 * count ≤ length bytes
-    → list_any is_dynamic (first_headers bytes count) ≡ false → list_any (is_out_of_range bytes) (first_headers bytes count) ≡ false → first_fault bytes ≡ None
-unfolding first_fault
+    → list_any is_dynamic (first_headers bytes count) ≡ false → list_any (is_out_of_range bytes) (first_headers bytes count) ≡ false → first_broken_rule bytes ≡ None
+unfolding first_broken_rule
 no_fault bytes entry count f s some few fits static ranges =
     let identity_is = identity_tests bytes s in
     let kinds = kind_tests bytes entry count f in
@@ -265,7 +266,7 @@ what_is_loaded bytes entry count segments f same =
     ∙ ap (λ (n : ℕ). found entry (map (segment_of bytes) (filter is_loaded (first_headers bytes n)))) f.e_phnum
     ∙ ap (found entry) same
 
-answered : (bytes : List ℕ) (e : Executable) → first_fault bytes ≡ None → executable bytes ≡ e → elf_of bytes ≡ Ok e
+answered : (bytes : List ℕ) (e : Executable) → first_broken_rule bytes ≡ None → executable bytes ≡ e → elf_of bytes ≡ Ok e
 unfolding elf_of
 answered bytes e none is = ap (λ (f : Option ElfFault). unless f (executable bytes)) none ∙ ap Ok is
 
@@ -317,4 +318,4 @@ read_back p fits small =
     let w = is_written p fits small in
     let all = all_so_far bytes (contents_start p) [] p.segments w.file (nothing_yet bytes) in
     let none = no_fault bytes p.entry count w.header w.begins fits.some fits.few w.long all.static all.ranges in
-    answered bytes (loaded p) none (what_is_loaded bytes p.entry count (map whole (filter is_filled p.segments)) w.header all.same)
+    answered bytes (loaded p) none (what_is_loaded bytes p.entry count (map as_loaded (filter is_filled p.segments)) w.header all.same)

@@ -2,9 +2,9 @@
 use Rattle.std.proofs.Common.{◌≡◌, ℕ, ◌+◌, List, [], ◌∷◌, ◌++◌, length, refl, sym, ap, ◌∙◌, append_assoc, add-zero, arith}
 use Rattle.std.proofs.lemmas.List.{append-nil}
 use Rattle.std.proofs.lemmas.List.Sums.{sum_by-cons}
-use Rattle.program.specs.declared.Segment.{Segment}
+use Rattle.executable.specs.declared.Segment.{Segment}
 use Rattle.elf32.specs.Written.{segment_header, segment_headers}
-use Rattle.program.specs.Writable.{total_size}
+use Rattle.executable.specs.Writable.{total_size}
 
 pub headers_none : (start : ℕ) → segment_headers start [] ≡ []
 unfolding segment_headers

@@ -4,7 +4,7 @@ use Rattle.std.specs.List.{list_any}
 use Rattle.std.proofs.lemmas.Bool.Decides.{nat_tests}
 use Rattle.elf32.specs.declared.faults.ElfFault.{ElfFault}
 use Rattle.elf32.specs.declared.faults.ElfFault.TheVariants.{Short, Magic, Class, Kind, Machine, Compressed, ProgramTable, Dynamic, SegmentRange}
-use Rattle.elf32.specs.Files.{first_fault, has_magic, has_class, has_kind, has_table, is_compressed, is_dynamic, is_out_of_range, headers, e_machine, e_phoff, e_phnum}
+use Rattle.elf32.specs.Files.{first_broken_rule, has_magic, has_class, has_kind, has_table, is_compressed, is_dynamic, is_out_of_range, headers, e_machine, e_phoff, e_phnum}
 use Rattle.elf32.specs.Sound.{IsElf}
 
 -- a rule that isn't broken
@@ -46,8 +46,8 @@ chain short magic class kind machine compressed table dynamic ranges e =
     let p8 = passed ranges SegmentRange None p7.1 in
     (p0.0, not_false table p6.0, p8.0)
 
-pub sound_file : (bytes : List ℕ) → first_fault bytes ≡ None → IsElf bytes
-unfolding first_fault
+pub sound_file : (bytes : List ℕ) → first_broken_rule bytes ≡ None → IsElf bytes
+unfolding first_broken_rule
 sound_file bytes sound =
     let tests = chain (nat_lt (length bytes) 52) (has_magic bytes) (has_class bytes) (has_kind bytes) (e_machine bytes == 243) (is_compressed bytes) (has_table bytes) (list_any is_dynamic (headers bytes)) (list_any (is_out_of_range bytes) (headers bytes)) sound in
     let fits = table_fits bytes tests.1 in

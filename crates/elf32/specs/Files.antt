@@ -6,6 +6,7 @@ use Rattle.elf32.specs.declared.faults.ElfFault.{ElfFault}
 use Rattle.elf32.specs.declared.faults.ElfFault.TheVariants.{Short, Magic, Class, Kind, Machine, Compressed, ProgramTable, Dynamic, SegmentRange}
 use Rattle.elf32.specs.declared.headers.ProgramHeader.{ProgramHeader}
 use Rattle.elf32.specs.Fields.{half_at, word_at}
+use Rattle.sequencing.specs.Results.{unless}
 
 -- the fields of the ELF header, at their places
 abbrev pub e_type : List ℕ → ℕ
@@ -85,8 +86,8 @@ is_out_of_range bytes h =
     || nat_lt (2 ^ 32) (h.p_vaddr + h.p_memsz))
 
 -- the first rule that the file breaks
-unfoldable pub first_fault : List ℕ → Option ElfFault
-first_fault bytes =
+unfoldable pub first_broken_rule : List ℕ → Option ElfFault
+first_broken_rule bytes =
     if nat_lt (length bytes) 52 then Some Short
     else if not (has_magic bytes) then Some Magic
     else if not (has_class bytes) then Some Class
@@ -123,13 +124,9 @@ segment_of bytes h = record { addr = h.p_vaddr; size = h.p_memsz; bytes = take h
 unfoldable pub executable : List ℕ → Executable
 executable bytes = record { entry = e_entry bytes; segments = map (segment_of bytes) (loaded_headers bytes) }
 
-abbrev pub unless : Option ElfFault → Executable → Result Executable ElfFault
-unless None found = Ok found
-unless (Some fault) found = Err fault
-
 -- the first fault, or what the file loads
 unfoldable pub elf_of : List ℕ → Result Executable ElfFault
-elf_of bytes = unless (first_fault bytes) (executable bytes)
+elf_of bytes = unless (first_broken_rule bytes) (executable bytes)
 
 -- the number by which the fault is known
 abbrev pub fault_number : ElfFault → ℕ

@@ -1,11 +1,11 @@
 -- What is known of a file that breaks no rule.
 use Rattle.std.specs.Prelude.{◌≡◌, ℕ, ◌+◌, ◌*◌, ◌^◌, ◌<◌, ◌≤◌, false, List, length, None}
 use Rattle.std.specs.List.{list_any}
-use Rattle.elf32.specs.Files.{FileSegment, first_fault, e_phoff, e_phnum, headers, is_out_of_range}
+use Rattle.elf32.specs.Files.{FileSegment, first_broken_rule, e_phoff, e_phnum, headers, is_out_of_range}
 
 -- all headers are in the file, and all segments to be loaded are in range
 pub record IsElf (bytes : List ℕ) : Type 0 where
-  pub sound : first_fault bytes ≡ None
+  pub sound : first_broken_rule bytes ≡ None
   pub long : 52 ≤ length bytes
   pub table : e_phoff bytes + 32 * e_phnum bytes ≤ length bytes
   pub few : e_phnum bytes ≤ 64

@@ -1,8 +1,8 @@
 -- The ELF file of a program: its header, one program header for each segment, and the segments' bytes without gaps.
 use Rattle.std.specs.Prelude.{◌≡◌, ℕ, ◌+◌, ◌*◌, ◌%◌, ◌^◌, ◌≤◌, Bool, not, ◌==◌, List, [], ◌∷◌, ◌++◌, length, map, filter, take, drop}
 use Rattle.std.specs.List.{flat_map}
-use Rattle.program.specs.declared.Program.{Program}
-use Rattle.program.specs.declared.Segment.{Segment}
+use Rattle.executable.specs.declared.Program.{Program}
+use Rattle.executable.specs.declared.Segment.{Segment}
 use Rattle.elf32.specs.Fields.{half_at, word_at, half, word}
 use Rattle.elf32.specs.Files.{FileSegment, Executable}
 
@@ -74,8 +74,8 @@ pub record HasSegment (bytes : List ℕ) (k offset : ℕ) (s : Segment) : Type 0
 abbrev pub is_filled : Segment → Bool
 is_filled s = not (length s.bytes == 0)
 
-abbrev pub whole : Segment → FileSegment
-whole s = record { addr = s.addr; size = length s.bytes; bytes = s.bytes }
+abbrev pub as_loaded : Segment → FileSegment
+as_loaded s = record { addr = s.addr; size = length s.bytes; bytes = s.bytes }
 
 abbrev pub loaded : Program → Executable
-loaded p = record { entry = p.entry; segments = map whole (filter is_filled p.segments) }
+loaded p = record { entry = p.entry; segments = map as_loaded (filter is_filled p.segments) }

@@ -3,7 +3,7 @@
 ghost use Rattle.std.specs.Prelude.{◌≡◌, ℕ, ◌+◌, ◌*◌, ◌^◌, ◌<◌, ◌≤◌, ◌==◌, not, length, IsTrue};
 ghost use Rattle.std.specs.List.{list_any};
 ghost use Rattle.elf32.specs.Fields.{half_at, word_at};
-ghost use Rattle.elf32.specs.Files.{e_phoff, e_phnum, e_entry, header, headers, has_magic, has_class, has_kind, is_compressed, has_table, is_dynamic, is_out_of_range, is_loaded, first_fault};
+ghost use Rattle.elf32.specs.Files.{e_phoff, e_phnum, e_entry, header, headers, has_magic, has_class, has_kind, is_compressed, has_table, is_dynamic, is_out_of_range, is_loaded, first_broken_rule};
 
 use crate::faults::ElfFault;
 use byteorder::{ByteOrder, LittleEndian};
@@ -187,9 +187,9 @@ fn has_out_of_range(bytes: &[u8]) -> bool
 }
 
 /// The first rule that the bytes break.
-#[tactic(auto, unfolding(crate::specs::Files::first_fault))]
-pub fn first_fault(bytes: &[u8]) -> Option<ElfFault>
-    ensures { result ≡ first_fault bytes.now }
+#[tactic(auto, unfolding(crate::specs::Files::first_broken_rule))]
+pub fn first_broken_rule(bytes: &[u8]) -> Option<ElfFault>
+    ensures { result ≡ first_broken_rule bytes.now }
 {
     if bytes.len() < HEADER_BYTES {
         return Some(ElfFault::Short);

@@ -2,12 +2,12 @@
 //! what is written stand.
 
 ghost use Rattle.std.specs.Prelude.{◌≡◌, ℕ, ◌+◌, ◌^◌, ◌<◌, List, [], ◌∷◌, ◌++◌, length, Ok, Err};
-ghost use Rattle.program.specs.declared.Program.{Program};
-ghost use Rattle.program.specs.declared.Segment.{Segment};
+ghost use Rattle.executable.specs.declared.Program.{Program};
+ghost use Rattle.executable.specs.declared.Segment.{Segment};
 ghost use Rattle.elf32.specs.declared.faults.ElfFault.TheVariants.{Short, SegmentRange};
 ghost use Rattle.elf32.specs.Files.{FileSegment, Executable, elf_of};
 ghost use Rattle.elf32.specs.Written.{HasHeader, HasSegment, contents_start, elf_bytes};
-ghost use Rattle.program.specs.Writable.{IsWritable, total_size};
+ghost use Rattle.executable.specs.Writable.{IsWritable, total_size};
 ghost use Rattle.elf32.specs.Worked.{marked_file, cut_file};
 
 /// A file of 124 bytes with a stack marker is read as its one segment; without its last byte the segment has a byte

@@ -5,7 +5,7 @@ ghost use Rattle.elf32.specs.Files.{elf_of, loaded_headers, is_out_of_range};
 ghost use Rattle.elf32.specs.Sound.{IsElf};
 
 use crate::faults::ElfFault;
-use crate::headers::{ProgramHeader, first_fault, header, header_count, word_at};
+use crate::headers::{ProgramHeader, first_broken_rule, header, header_count, word_at};
 use std::marker::Model;
 
 /// A segment of a file, over the file's bytes.
@@ -132,7 +132,7 @@ impl<'a> Elf<'a> {
 pub fn read(bytes: &[u8]) -> Result<Elf<'_>, ElfFault>
     ensures { result ≡ elf_of bytes.now }
 {
-    match first_fault(bytes) {
+    match first_broken_rule(bytes) {
         Some(fault) => Err(fault),
         None => Ok(Elf { bytes }),
     }

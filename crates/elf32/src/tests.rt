@@ -3,7 +3,7 @@
 ghost use Rattle.std.specs.Prelude.{◌+◌, ◌≤◌, length};
 
 use super::*;
-use program::{Program, Segment};
+use executable::{Program, Segment};
 use std::alloc::Global;
 use std::test::Fail;
 

@@ -5,10 +5,10 @@ ghost use Rattle.std.specs.List.{flat_map};
 ghost use Rattle.elf32.specs.Fields.{half, word};
 ghost use Rattle.elf32.specs.Files.{elf_of};
 ghost use Rattle.elf32.specs.Written.{elf_header, segment_header, segment_headers, contents, elf_bytes, loaded};
-ghost use Rattle.program.specs.Writable.{total_size, IsWritable};
+ghost use Rattle.executable.specs.Writable.{total_size, IsWritable};
 
 use byteorder::{ByteOrder, LittleEndian};
-use program::{Program, Segment};
+use executable::{Program, Segment};
 use std::alloc::{AllocError, Global};
 
 /// The first 16 bytes of a file, e_ident: the magic bytes, 32 bits, little-endian, version 1.

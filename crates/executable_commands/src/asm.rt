@@ -1,21 +1,16 @@
 //! The command `asm`: a text is assembled, and its executable is to be written.
 
-ghost use Rattle.std.specs.Prelude.{◌≡◌, ◌≤◌, All, Ok, IfOk, IfErr, string_bytes};
-ghost use Rattle.std.specs.Int.{to_be_bytes, w32};
+ghost use Rattle.std.specs.Prelude.{◌≡◌, ◌≤◌, Ok, IfOk, string_bytes};
 ghost use Rattle.att_base.specs.Files.{IsName};
-ghost use Rattle.hex.specs.Hex.{encode_lower};
-ghost use Rattle.elf32.specs.Written.{elf_bytes};
-ghost use Rattle.program.specs.Writable.{total_size, IsWritable};
+ghost use Rattle.executable.specs.Writable.{total_size, IsWritable};
 ghost use Rattle.rv_asm.specs.Assembled.{assembled};
-ghost use Rattle.plans.specs.Steps.{exactly};
-ghost use Rattle.plans.specs.Written.{written, IsFinal};
-ghost use Rattle.plans.specs.Comes.{Comes, IsBlamed, IsQuiet};
-ghost use Rattle.executable_commands.specs.Lines.{asm_line, entry_line};
-ghost use Rattle.executable_commands.specs.Plans.{asm_plan, asm_told, assembly_of};
+ghost use Rattle.command_plans.specs.Answered.{Gives, Reads};
+ghost use Rattle.executable_commands.specs.Lines.{entry_line};
+ghost use Rattle.executable_commands.specs.Plans.{asm_plan, checked_assembly, written_assembly};
 
 use att_base::{Files, NamedFile};
-use plans::{Output, Stop, accepted, read_file};
-use program::{Program, Segment};
+use command_plans::{FileParts, INPUT_LIMIT, Output, Parts, Planned, Stop, bad_line, read_file};
+use executable::{Program, Segment};
 use rv_asm::{AsmFault, assemble};
 use std::alloc::{AllocError, Global};
 
@@ -31,13 +26,6 @@ fn total_size(segments: &[Segment]) -> u64
     size
 }
 
-#[tactic(auto, unfolding(crate::specs::Lines::asm_line))]
-fn asm_line(alloc: Global, name: &str, line: u64, kind: u32) -> Result<String, AllocError>
-    ensures { IfOk result (λ text. string_bytes text ≡ asm_line name.now line kind) }
-{
-    format!(in alloc; "attest: bad input {name} asm {line} {kind}\n")
-}
-
 #[tactic(auto, unfolding(crate::specs::Lines::entry_line))]
 fn entry_line(alloc: Global, entry: u32, segments: usize, bytes: u64) -> Result<String, AllocError>
     ensures { IfOk result (λ text. string_bytes text ≡ entry_line entry segments bytes) }
@@ -47,13 +35,14 @@ fn entry_line(alloc: Global, entry: u32, segments: usize, bytes: u64) -> Result<
     format!(in alloc; "entry {digits} segments {segments} bytes {bytes}\n")
 }
 
-fn program_output(alloc: Global, elf: &str, program: &Program) -> Result<Output, Stop>
+fn program_output<P: Parts + Drop, B: FileParts + Drop>(
+    alloc: Global,
+    elf: &str,
+    program: &Program,
+) -> Result<Output<P, B>, Stop>
     requires named { IsName elf.now }
     requires writable { IsWritable program.now }
-    ensures gives { Comes written result (exactly (Ok (assembly_of elf.now program.now))) }
-    ensures last { IfOk result IsFinal }
-    ensures names { IfOk result (λ o. All (λ file. file.name ≡ elf.now) o.files.items) }
-    ensures quiet { IfErr result IsQuiet }
+    ensures { Gives (λ o. o) (Ok (written_assembly elf.now program.now)) result }
 {
     let segments = program.segments.as_slice();
     let file = elf32::write(alloc, program)?;
@@ -61,46 +50,41 @@ fn program_output(alloc: Global, elf: &str, program: &Program) -> Result<Output,
     let out = entry_line(alloc, program.entry, segments.len(), size)?;
     let name = String::from_str(alloc, elf)?;
     let mut files = Vec::new(alloc);
-    let Ok(()) = files.push(NamedFile::new(name, file)) else {
+    let Ok(()) = files.push(Planned::whole(NamedFile::new(name, file))) else {
         return Err(Stop::Memory);
     };
-    Ok(accepted(alloc, files, out.into_bytes()))
+    Ok(Output::accepted(alloc, files, out.into_bytes()))
 }
 
-fn asm_output(alloc: Global, text: &str, elf: &str, source: &[u8]) -> Result<Output, Stop>
+fn asm_output<P: Parts + Drop, B: FileParts + Drop>(
+    alloc: Global,
+    text: &str,
+    elf: &str,
+    source: &[u8],
+) -> Result<Output<P, B>, Stop>
     requires { IsName elf.now }
-    ensures gives { Comes written result (exactly (asm_told text.now elf.now (assembled source.now))) }
-    ensures last { IfOk result IsFinal }
-    ensures names { IfOk result (λ o. All (λ file. file.name ≡ elf.now) o.files.items) }
-    ensures quiet { IfErr result IsQuiet }
+    ensures { Gives (λ o. o) (checked_assembly text.now elf.now (assembled source.now)) result }
 {
     match assemble(alloc, source) {
         Ok(program) => program_output(alloc, elf, &program),
         Err(AsmFault::At { line, kind }) => {
-            let line = asm_line(alloc, text, line, kind)?;
+            let line = bad_line(alloc, text, "asm", line, &[u64::from(kind)])?;
             Err(Stop::Bad(line))
         }
         Err(AsmFault::Memory) => Err(Stop::Memory),
     }
 }
 
-/// The output of `asm`: the text is read, and then assembled. Nothing is written here.
-pub fn prepare_asm<F: Files>(
+/// The output of `asm`: the text is read, and then assembled. Nothing is written here, and no file is changed.
+pub fn prepare_asm<F: Files, P: Parts + Drop, B: FileParts + Drop>(
     alloc: Global,
     files: &mut F,
     text: &str,
     elf: &str,
-) -> Result<Output, Stop>
+) -> Result<Output<P, B>, Stop>
     requires { IsName text.now × IsName elf.now }
-    ensures gives { Comes written result (asm_plan text.now elf.now (F.held files.old)) }
-    ensures last { IfOk result IsFinal }
-    ensures names { IfOk result (λ o. All (λ file. file.name ≡ elf.now) o.files.items) }
-    ensures blamed { IfErr result (λ stop. IsBlamed stop (F.held files.old) (F.faults files.old) (F.faults files.new)) }
-    ensures same { F.held files.new ≡ F.held files.old }
-    ensures later { F.faults files.old ≤ F.faults files.new }
+    ensures { Reads (λ o. o) (asm_plan text.now elf.now) result (F.shows files.old) (F.shows files.new) }
 {
-    match read_file(alloc, files, text) {
-        Ok(source) => asm_output(alloc, text, elf, &source),
-        Err(stop) => Err(stop),
-    }
+    let source = read_file(alloc, files, text, INPUT_LIMIT)?;
+    asm_output(alloc, text, elf, &source)
 }

@@ -6,4 +6,7 @@ mod asm;
 mod show;
 
 pub use asm::prepare_asm;
-pub use show::prepare_show;
+pub use show::{Listed, prepare_show};
+
+#[cfg(test)]
+mod tests;

@@ -1,64 +1,58 @@
 //! The command `show`: the listing of an executable is to be printed.
 
-ghost use Rattle.std.specs.Prelude.{◌≡◌, ◌≤◌, IfOk, IfErr, OnOk, [], string_bytes};
+ghost use Rattle.std.specs.Prelude.{◌≡◌};
 ghost use Rattle.att_base.specs.Files.{IsName};
 ghost use Rattle.elf32.specs.Files.{elf_of};
-ghost use Rattle.plans.specs.Steps.{exactly, Both};
-ghost use Rattle.plans.specs.Written.{written, IsFinal};
-ghost use Rattle.plans.specs.Comes.{Comes, IsBlamed, IsQuiet};
-ghost use Rattle.executable_commands.specs.Lines.{elf_line};
-ghost use Rattle.executable_commands.specs.Plans.{elf_told, IsShown, show_plan};
+ghost use Rattle.command_plans.specs.Answered.{Gives, Reads};
+ghost use Rattle.executable_commands.specs.Plans.{checked_listing, show_plan};
+ghost use Rattle.listing.specs.Left.{listing_left};
 
 use att_base::Files;
-use elf32::Elf;
-use listing::list;
-use plans::{Output, Stop, accepted, read_file};
-use std::alloc::{AllocError, Global};
+use command_plans::{FileParts, INPUT_LIMIT, Output, Parts, Stop, bad_line, read_file};
+use listing::Listing;
+use std::alloc::Global;
 
-#[tactic(auto, unfolding(crate::specs::Lines::elf_line))]
-fn elf_line(alloc: Global, name: &str, fault: u32) -> Result<String, AllocError>
-    ensures { IfOk result (λ text. string_bytes text ≡ elf_line name.now fault) }
-{
-    format!(in alloc; "attest: bad input {name} elf {fault}\n")
+/// A listing that goes to standard output part by part.
+#[derive(Drop)]
+pub struct Listed {
+    listing: Listing,
 }
 
-fn listing_output(alloc: Global, elf: &Elf<'_>) -> Result<Output, Stop>
-    ensures gives { Comes written result (IsShown elf.now) }
-    ensures last { IfOk result IsFinal }
-    ensures no_files { IfOk result (λ o. o.files.items ≡ []) }
-    ensures quiet { IfErr result IsQuiet }
-{
-    let text = list(alloc, elf)?;
-    Ok(accepted(alloc, Vec::new(alloc), text))
+impl Parts for Listed {
+    ghost told = { λ s. listing_left s.listing };
+
+    fn next(&mut self, into: &mut [u8]) -> usize {
+        self.listing.next(into)
+    }
 }
 
-fn show_output(alloc: Global, name: &str, bytes: &[u8]) -> Result<Output, Stop>
-    ensures gives { Comes written result (Both (exactly (elf_told name.now (elf_of bytes.now))) IsShown) }
-    ensures last { IfOk result IsFinal }
-    ensures no_files { IfOk result (λ o. o.files.items ≡ []) }
-    ensures quiet { IfErr result IsQuiet }
+// The listing of an ELF file. It wants memory only for the line of a bad one.
+fn show_output<B: FileParts + Drop>(
+    alloc: Global,
+    name: &str,
+    file: Vec<u8>,
+) -> Result<Output<Listed, B>, Stop>
+    ensures { Gives (λ o. o) (checked_listing name.now (elf_of file.items)) result }
 {
-    match elf32::read(bytes) {
-        Ok(elf) => listing_output(alloc, &elf),
+    match Listing::new(file) {
+        Ok(listing) => Ok(Output::told(alloc, Listed { listing })),
         Err(fault) => {
-            let line = elf_line(alloc, name, fault.number())?;
+            let line = bad_line(alloc, name, "elf", u64::from(fault.number()), &[])?;
             Err(Stop::Bad(line))
         }
     }
 }
 
-/// The output of `show`: the executable is read, and then listed. Nothing is written here.
-pub fn prepare_show<F: Files>(alloc: Global, files: &mut F, elf: &str) -> Result<Output, Stop>
+/// The output of `show`: the executable is read, and its listing is told part by part. Nothing is written here, and no
+/// file is changed. No memory is wanted beside the file's bytes.
+pub fn prepare_show<F: Files, B: FileParts + Drop>(
+    alloc: Global,
+    files: &mut F,
+    elf: &str,
+) -> Result<Output<Listed, B>, Stop>
     requires { IsName elf.now }
-    ensures gives { Comes written result (show_plan elf.now (F.held files.old)) }
-    ensures last { IfOk result IsFinal }
-    ensures no_files { IfOk result (λ o. o.files.items ≡ []) }
-    ensures blamed { IfErr result (λ stop. IsBlamed stop (F.held files.old) (F.faults files.old) (F.faults files.new)) }
-    ensures same { F.held files.new ≡ F.held files.old }
-    ensures later { F.faults files.old ≤ F.faults files.new }
+    ensures { Reads (λ o. o) (show_plan elf.now) result (F.shows files.old) (F.shows files.new) }
 {
-    match read_file(alloc, files, elf) {
-        Ok(bytes) => show_output(alloc, elf, &bytes),
-        Err(stop) => Err(stop),
-    }
+    let bytes = read_file(alloc, files, elf, INPUT_LIMIT)?;
+    show_output(alloc, elf, bytes)
 }

@@ -1,1 +1,3 @@
 pub mod Exponents
+pub mod Blocks
+pub mod RangeTests

@@ -3,6 +3,8 @@ use Rattle.std.specs.Prelude.{◌≡◌, ℕ, ◌+◌, ◌-◌, ◌*◌, ◌/◌
 use Rattle.std.specs.List.{list_any, range_with_len}
 use Rattle.history.specs.declared.events.Width.{Width}
 use Rattle.history.specs.declared.events.Width.TheVariants.{Byte, Half, Word}
+use Rattle.history.specs.declared.ranges.Range.{Range}
+use Rattle.history.specs.Attested.{IsRanges, last_end}
 
 -- where memory lies: its first address, the bytes of a block, the number of blocks
 pub record Layout : Type 0 where
@@ -64,29 +66,20 @@ fits l addr width = nat_le l.base addr && nat_le (addr + width_bytes width) (pas
 abbrev pub is_aligned : ℕ → Width → Bool
 is_aligned addr width = addr % width_bytes width == 0
 
--- A device's memory: its layout, the first attested block and the number of attested blocks, the bytes that
--- memory has before the first entry, and how many entries the history may have.
+-- A device's memory: its layout, the ranges of its attested blocks, the bytes that memory has before the first
+-- entry, and how many entries the history may have.
 pub record Setting : Type 0 where
   pub layout : Layout
-  pub first : ℕ
-  pub attested : ℕ
+  pub ranges : List Range
   pub image : List ℕ
   pub cap : ℕ
 
 -- the settings that a device may have
 pub record IsSetting (w : Setting) : Type 0 where
   pub layout : IsLayout w.layout
-  pub some_attested : 1 ≤ w.attested
-  pub attested_fit : w.first + w.attested ≤ w.layout.blocks
+  pub ranges : IsRanges w.ranges
+  pub inside : last_end w.ranges ≤ w.layout.blocks
   pub image_length : length w.image ≡ byte_count w.layout
   pub image_bytes : All (λ byte. byte < 256) w.image
   pub some_entry : 1 ≤ w.cap
   pub few_entries : w.cap ≤ 4000000
-
--- the block is attested
-abbrev pub is_attested : Setting → ℕ → Bool
-is_attested w block = nat_le w.first block && nat_lt block (w.first + w.attested)
-
--- the attested block's number, from 0 in the order of the addresses
-abbrev pub index_of : Setting → ℕ → ℕ
-index_of w block = block - w.first

@@ -1,9 +1,10 @@
 -- The histories that plain memory and the order of a measurement allow: six rules for each entry.
-use Rattle.std.specs.Prelude.{ℕ, ◌+◌, ◌<◌, Bool, true, false, not, ◌&&◌, ◌||◌, ◌==◌, nat_le, nat_lt, IsTrue, List, [], ◌∷◌, length, reverse, Option, Some, None}
+use Rattle.std.specs.Prelude.{ℕ, ◌<◌, Bool, true, false, not, ◌&&◌, ◌||◌, ◌==◌, nat_le, IsTrue, List, [], ◌∷◌, length, reverse, Option, Some, None}
 use Rattle.history.specs.declared.events.Width.TheVariants.{Word}
 use Rattle.history.specs.declared.events.Act.{Act}
 use Rattle.history.specs.declared.events.Act.TheVariants.{Fetch, Load, Store, Start, Copy, End, Tick, Release}
 use Rattle.history.specs.declared.events.Entry.{Entry}
+use Rattle.history.specs.Attested.{is_attested, index_of, total}
 use Rattle.history.specs.Layout.{Setting, fits, is_aligned, block_of}
 use Rattle.history.specs.Memory.{memory_after, value_in}
 use Rattle.history.specs.Pass.{Pass, pass_after, copied_of, is_ended, is_released, is_extended, is_open}
@@ -38,9 +39,9 @@ abbrev pub lock_allows : Setting → List Entry → Act → Bool
 lock_allows w past (Store addr width value) = not (is_locked w past (block_of w.layout addr))
 lock_allows w past _ = true
 
--- the pass copies this block next
+-- the pass copies this block next: the attested block whose index is the number of blocks copied so far
 abbrev pub copies_next : Setting → Pass → ℕ → Bool
-copies_next w pass block = not (is_ended pass) && nat_lt (copied_of pass) w.attested && (block == w.first + copied_of pass)
+copies_next w pass block = not (is_ended pass) && is_attested w.ranges block && (index_of w.ranges block == copied_of pass)
 
 -- the order of a measurement: Start only where no pass is open; Copy of each attested block by rising
 -- address; End after the last Copy; Release after End, in an extended discipline, once
@@ -50,7 +51,7 @@ in_order w (Some pass) (Start discipline counter) = not (is_open pass)
 in_order w None (Copy block) = false
 in_order w (Some pass) (Copy block) = copies_next w pass block
 in_order w None End = false
-in_order w (Some pass) End = not (is_ended pass) && (copied_of pass == w.attested)
+in_order w (Some pass) End = not (is_ended pass) && (copied_of pass == total w.ranges)
 in_order w None Release = false
 in_order w (Some pass) Release = is_extended pass.discipline && is_ended pass && not (is_released pass)
 in_order w pass (Fetch addr value) = true

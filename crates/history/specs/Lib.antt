@@ -1,4 +1,5 @@
 pub mod Layout
+pub mod Attested
 pub mod Memory
 pub mod Pass
 pub mod Locks

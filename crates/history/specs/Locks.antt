@@ -3,7 +3,8 @@ use Rattle.std.specs.Prelude.{ℕ, Bool, false, not, ◌&&◌, nat_le, nat_lt, L
 use Rattle.history.specs.declared.events.Discipline.{Discipline}
 use Rattle.history.specs.declared.events.Discipline.TheVariants.{All, AllExt, Dec, Inc, IncExt}
 use Rattle.history.specs.declared.events.Entry.{Entry}
-use Rattle.history.specs.Layout.{Setting, is_attested, index_of}
+use Rattle.history.specs.Attested.{is_attested, index_of}
+use Rattle.history.specs.Layout.{Setting}
 use Rattle.history.specs.Pass.{Pass, pass_after, copied_of, is_ended, is_released}
 
 -- With so many blocks copied, with or without End, with or without Release: the discipline locks the
@@ -28,4 +29,4 @@ locks_now (Some pass) index = pass_locks pass index
 
 -- the block is locked after these entries, the newest first
 abbrev pub is_locked : Setting → List Entry → ℕ → Bool
-is_locked w past block = is_attested w block && locks_now (pass_after past) (index_of w block)
+is_locked w past block = is_attested w.ranges block && locks_now (pass_after past) (index_of w.ranges block)

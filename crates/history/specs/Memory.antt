@@ -1,10 +1,11 @@
 -- Memory at a place of the history, by looking back through the entries before it.
-use Rattle.std.specs.Prelude.{ℕ, zero, suc, ◌+◌, ◌-◌, ◌*◌, ◌/◌, ◌%◌, ◌^◌, Bool, ◌&&◌, nat_le, nat_lt, if◌then◌else◌, List, [], ◌∷◌, take, reverse, filter, slice_index, Option, Some, None, unwrap_or}
+use Rattle.std.specs.Prelude.{ℕ, zero, suc, ◌+◌, ◌-◌, ◌*◌, ◌/◌, ◌%◌, ◌^◌, Bool, ◌&&◌, nat_le, nat_lt, if◌then◌else◌, List, [], ◌∷◌, take, reverse, filter, flat_map, slice_index, Option, Some, None, unwrap_or}
 use Rattle.history.specs.declared.events.Width.{Width}
 use Rattle.history.specs.declared.events.Width.TheVariants.{Byte, Half, Word}
 use Rattle.history.specs.declared.events.Act.{Act}
 use Rattle.history.specs.declared.events.Act.TheVariants.{Fetch, Load, Store, Start, Copy, End, Tick, Release}
 use Rattle.history.specs.declared.events.Entry.{Entry}
+use Rattle.history.specs.Attested.{attested_blocks}
 use Rattle.history.specs.Layout.{Setting, block_start, width_bytes}
 
 -- A history is the list of its entries, the oldest first. Place p is the point after the first p entries,
@@ -62,4 +63,4 @@ block_bytes w m block = bytes_from m (block_start w.layout block) w.layout.size
 
 -- the bytes of the attested blocks, by rising address
 abbrev pub attested_bytes : Setting → Memory → List ℕ
-attested_bytes w m = bytes_from m (block_start w.layout w.first) (w.layout.size * w.attested)
+attested_bytes w m = flat_map (block_bytes w m) (attested_blocks w.ranges)

@@ -6,7 +6,8 @@ use Rattle.history.specs.declared.events.Discipline.TheVariants.{All, AllExt, De
 use Rattle.history.specs.declared.events.Act.{Act}
 use Rattle.history.specs.declared.events.Act.TheVariants.{Copy}
 use Rattle.history.specs.declared.events.Entry.{Entry}
-use Rattle.history.specs.Layout.{Setting, IsSetting, is_attested, index_of, block_of}
+use Rattle.history.specs.Attested.{is_attested, index_of}
+use Rattle.history.specs.Layout.{Setting, IsSetting, block_of}
 use Rattle.history.specs.Memory.{back, memory_after, memory_at, attested_bytes}
 use Rattle.history.specs.Pass.{Pass, pass_after, copied_of, is_extended}
 use Rattle.history.specs.Locks.{pass_locks}
@@ -38,11 +39,11 @@ locks_at_start IncExt = false
 -- what a block's bytes are while the pass runs
 pub record Slides (w : Setting) (past : List Entry) (pass : Pass) : Type 0 where
   -- a block that is still to be copied has the bytes of Start, where the discipline locks from Start on
-  pub waiting : IsTrue (locks_at_start pass.discipline) → (block : ℕ) → IsTrue (is_attested w block) → copied_of pass ≤ index_of w block → SameBlock w block past pass.opened
+  pub waiting : IsTrue (locks_at_start pass.discipline) → (block : ℕ) → IsTrue (is_attested w.ranges block) → copied_of pass ≤ index_of w.ranges block → SameBlock w block past pass.opened
   -- and so it had them at its Copy
-  pub begun : IsTrue (locks_at_start pass.discipline) → (block : ℕ) → IsTrue (is_attested w block) → index_of w block < copied_of pass → SameBlock w block (up_to_copy block past) pass.opened
+  pub begun : IsTrue (locks_at_start pass.discipline) → (block : ℕ) → IsTrue (is_attested w.ranges block) → index_of w.ranges block < copied_of pass → SameBlock w block (up_to_copy block past) pass.opened
   -- a copied block that is still locked has the bytes of its Copy
-  pub kept : (block : ℕ) → IsTrue (is_attested w block) → index_of w block < copied_of pass → IsTrue (pass_locks pass (index_of w block)) → SameBlock w block past (up_to_copy block past)
+  pub kept : (block : ℕ) → IsTrue (is_attested w.ranges block) → index_of w.ranges block < copied_of pass → IsTrue (pass_locks pass (index_of w.ranges block)) → SameBlock w block past (up_to_copy block past)
 
 -- it holds at each place of a legal history
 abbrev pub LocksSlide : Type 0

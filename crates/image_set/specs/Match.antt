@@ -1,6 +1,7 @@
 -- Known images, and the first of them that the tag of a report fits.
 use Rattle.std.specs.Prelude.{ℕ, ◌*◌, Bool, List, ◌++◌, [], ◌∷◌, bytes_eq, position, Option}
 use Rattle.std.specs.List.{list_any}
+use Rattle.history.specs.Attested.{total}
 use Rattle.chronicle.specs.declared.worlds.Shape.{Shape}
 use Rattle.report.specs.declared.Report.{Report}
 use Rattle.report.specs.Reports.{asked_of}
@@ -21,19 +22,15 @@ with_image set name bytes =
 
 -- how many bytes the attested blocks have
 abbrev pub attested_length : Shape → ℕ
-attested_length shape = shape.size * shape.attested
+attested_length shape = shape.size * total shape.ranges
 
 -- an image has this name
 abbrev pub has_name : List ℕ → List Image → Bool
 has_name name images = list_any (λ image. bytes_eq image.name name) images
 
--- the tag that the report has if the attested memory held these bytes
-unfoldable pub expected_tag : List ℕ → Report → List ℕ → List ℕ
-expected_tag key report bytes = report_tag key (asked_of report) report.shape bytes report.start report.end
-
 -- the report's tag is that of these bytes
 abbrev pub is_tag_of : List ℕ → Report → List ℕ → Bool
-is_tag_of key report bytes = bytes_eq (expected_tag key report bytes) report.tag
+is_tag_of key report bytes = bytes_eq (report_tag key (asked_of report) report.shape bytes report.start report.end) report.tag
 
 -- the least position, from 0, of an image whose bytes have the report's tag
 unfoldable pub first_match : List ℕ → Report → List Image → Option ℕ

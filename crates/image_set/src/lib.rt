@@ -10,12 +10,11 @@
 #![tactic(auto)]
 
 ghost use Rattle.std.specs.Prelude.{◌≡◌};
-ghost use Rattle.image_set.specs.Match.{expected_tag, is_tag_of};
+ghost use Rattle.image_set.specs.Match.{attested_length, is_tag_of};
 
 use chronicle::Shape;
-use hmac256::Hmac;
 use listed::{Bytes, Items, Text};
-use report::{Challenge, Report, head, tail};
+use report::{Report, report_tag};
 use std::alloc::Global;
 use std::marker::Model;
 use thiserror::Error;
@@ -66,30 +65,18 @@ impl Model for ImageSet {
     ghost invariant = { λ s. length s.images ≤ 2 ^ 32 };
 }
 
-// The tag that the report has if the attested memory held these bytes: they go straight into the digest.
-#[tactic(auto, unfolding(crate::specs::Match::expected_tag, report::specs::Tags::report_tag))]
-fn tag_of(key: &[u8], report: &Report, bytes: &[u8]) -> [u8; 32]
-    ensures { result ≡ expected_tag key.now report.now bytes.now }
+// How many bytes the attested blocks have.
+fn attested_length(shape: &Shape) -> u64
+    ensures { result ≡ attested_length shape.now }
 {
-    let challenge = Challenge {
-        discipline: report.discipline,
-        lead: 0,
-        hold: 0,
-        counter: report.counter,
-        nonce: report.nonce,
-    };
-    let mut hmac = Hmac::new(key);
-    hmac.update(&head(&challenge, &report.shape));
-    hmac.update(bytes);
-    hmac.update(&tail(report.start, report.end));
-    hmac.finish()
+    u64::from(shape.size) * u64::from(shape.ranges.total())
 }
 
 // The report's tag is that of these bytes.
 fn is_tag_of(key: &[u8], report: &Report, bytes: &[u8]) -> bool
     ensures { result ≡ is_tag_of key.now report.now bytes.now }
 {
-    tag_of(key, report, bytes) == report.tag
+    report_tag(key, report, bytes) == report.tag
 }
 
 impl ImageSet {
@@ -144,7 +131,7 @@ impl ImageSet {
         ensures twice { IsErrOf result ImageFault.NameTwice
             ↔ ((length bytes.items ≡ attested_length self.old.shape) × IsTrue (has_name name.now self.old.images)) }
     {
-        if bytes.len() as u64 != u64::from(self.shape.size) * u64::from(self.shape.attested) {
+        if bytes.len() as u64 != attested_length(&self.shape) {
             return Err(ImageFault::Length);
         }
         if self.has_name(name) {

@@ -1,4 +1,4 @@
-pub mod Joined
 pub mod Firsts
-pub mod OneEach
+pub mod Pieces
+pub mod LeftOver
 pub mod Told

@@ -1,4 +1,4 @@
 pub mod Listing
-pub mod Adding
-pub mod Worked
+pub mod Left
 pub mod Told
+pub mod Worked

@@ -3,8 +3,8 @@ use Rattle.std.specs.Prelude.{ℕ, List, [], ◌∷◌, ◌++◌, codes}
 use Rattle.elf32.specs.Files.{FileSegment}
 
 -- four words at 80000000
-abbrev pub four_words : List FileSegment
-four_words = record {
+abbrev pub four_word_segments : List FileSegment
+four_word_segments = record {
   addr = 0x80000000;
   size = 16;
   bytes = 0x93 ∷ 0x00 ∷ 0x50 ∷ 0x00 ∷ 0x37 ∷ 0x01 ∷ 0x00 ∷ 0x80 ∷ 0x23 ∷ 0x20 ∷ 0x11 ∷ 0x00 ∷ 0x73 ∷ 0x00 ∷ 0x00 ∷ 0x00 ∷ [];

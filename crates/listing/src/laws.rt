@@ -1,15 +1,8 @@
-// The laws of listings: facts about the definitions alone, so their functions do nothing.
+// The law of listings: a fact about the definitions alone, so its function does nothing.
 
 ghost use Rattle.std.specs.Prelude.{◌≡◌, ◌↔◌, ℕ, List, Contains};
-ghost use Rattle.elf32.specs.Files.{FileSegment};
-ghost use Rattle.listing.specs.Listing.{word, byte, items, IsListing};
+ghost use Rattle.listing.specs.Listing.{word, byte, items};
 ghost use Rattle.listing.specs.Told.{HasWord, HasSingle};
-
-/// An executable has one listing.
-pub fn one_listing()
-    ensures { (segments : List FileSegment) (one other : List ℕ) → IsListing segments one → IsListing segments other
-        → one ≡ other }
-{}
 
 /// What is listed of some bytes from an address on: each word at an address divisible by 4 whose four bytes are there,
 /// and each byte whose word isn't there.

@@ -1,8 +1,10 @@
 //! Listings whose words come from the RISC-V manual's formats, and whose lines from the listing's form.
 
 use super::*;
-use elf32::read;
+use elf32::{read, write};
+use rv_asm::assemble;
 use std::alloc::Global;
+use std::process::Abort;
 use std::test::Fail;
 
 // The ELF header up to the number of program headers, which begin at 52.
@@ -44,9 +46,76 @@ fn file_of(alloc: Global, parts: &[Part<'_>]) -> Result<Vec<u8>, Fail> {
 // The number of the segments that such a file loads, and its listing.
 fn listing_of(alloc: Global, parts: &[Part<'_>]) -> Result<(u32, Vec<u8>), Fail> {
     let file = file_of(alloc, parts)?;
-    let elf = read(&file)?;
-    let text = list(alloc, &elf)?;
-    Ok((elf.count(), text))
+    let count = read(&file)?.count();
+    let mut listing = Listing::new(file)?;
+    let mut text = Vec::new(alloc);
+    let mut piece = [0u8; 100];
+    for _ in 0..100 {
+        let told = listing.next(&mut piece);
+        text.extend_from_slice(&piece[..told])?;
+    }
+    Ok((count, text))
+}
+
+// The bytes that a listing tells, and how often it is asked for so many of them.
+fn told(rt: &impl Abort, listing: &mut Listing, piece: &mut [u8], want: &[u8]) -> usize {
+    let mut rest = want;
+    let mut calls = 0usize;
+    for _ in 0..want.len() {
+        let count = listing.next(piece);
+        if count == 0 {
+            break;
+        }
+        assert!(rt; count <= rest.len());
+        assert!(rt; piece[..count] == rest[..count]);
+        rest = &rest[count..];
+        calls = calls.wrapping_add(1);
+    }
+    assert!(rt; rest.is_empty());
+    assert!(rt; listing.next(piece) == 0);
+    calls
+}
+
+// However few bytes are asked for at once, the pieces are the listing.
+#[test]
+fn pieces_are_the_listing(rt: HostRuntime) -> Result<(), Fail> {
+    let code = b"\x93\x00\x50\x00\x37\x01\x00\x80\xaa".as_slice();
+    let want =
+        b"80000000 00500093 addi x1, x0, 5\n80000004 80000137 lui x2, 0x80000\n80000008 aa .byte 0xaa\n".as_slice();
+    let parts = [(LOAD, 0x8000_0000, 16, code)];
+    let mut one = Listing::new(file_of(rt.alloc(), &parts)?)?;
+    assert!(rt; told(&rt, &mut one, &mut [0u8; 1], want) == want.len());
+    let mut seven = Listing::new(file_of(rt.alloc(), &parts)?)?;
+    told(&rt, &mut seven, &mut [0u8; 7], want);
+    let mut all = Listing::new(file_of(rt.alloc(), &parts)?)?;
+    assert!(rt; told(&rt, &mut all, &mut [0u8; 200], want) == 1);
+    assert!(rt; Listing::new(Vec::new(rt.alloc())).is_err());
+    Ok(())
+}
+
+// 64 segments and 1 MiB, assembled, written, read back and listed: each word is one line of 35 bytes.
+#[test]
+fn the_largest_executable(rt: HostRuntime) -> Result<(), Fail> {
+    let mut text = Vec::new(rt.alloc());
+    text.extend_from_slice(b".entry a\n".as_slice())?;
+    for k in 0..64u32 {
+        let line = format!(in rt.alloc(); ".segment {}\n.space 16384\n", k * 16384)?;
+        text.extend_from_slice(line.as_str().as_bytes())?;
+    }
+    text.extend_from_slice(b"a:\n".as_slice())?;
+    let Ok(program) = assemble(rt.alloc(), &text) else {
+        return Err("the text is refused".into());
+    };
+    let file = write(rt.alloc(), &program)?;
+    assert!(rt; read(&file)?.count() == 64);
+    let mut listing = Listing::new(file)?;
+    let mut piece = [0u8; 4096];
+    let mut length = 0usize;
+    for _ in 0..10_000 {
+        length = length.wrapping_add(listing.next(&mut piece));
+    }
+    assert!(rt; length == 262_144 * 35);
+    Ok(())
 }
 
 #[test]
@@ -87,11 +156,11 @@ fn words_and_single_bytes(rt: HostRuntime) -> Result<(), Fail> {
             b"\x0a\x73\x00\x00\x00",
             b"fffffffb 0a .byte 0x0a\nfffffffc 00000073 ecall\n",
         ),
-        // no instruction of RV32I: all zeros, all ones, fence.i, mul x1, x2, x3
+        // no instruction of RV32IM: all zeros, all ones, fence.i, and mul x1, x2, x3 with another funct7
         (
             0,
-            b"\x00\x00\x00\x00\xff\xff\xff\xff\x0f\x10\x00\x00\xb3\x00\x31\x02",
-            b"00000000 00000000 .word 0x00000000\n00000004 ffffffff .word 0xffffffff\n00000008 0000100f .word 0x0000100f\n0000000c 023100b3 .word 0x023100b3\n",
+            b"\x00\x00\x00\x00\xff\xff\xff\xff\x0f\x10\x00\x00\xb3\x00\x31\x04",
+            b"00000000 00000000 .word 0x00000000\n00000004 ffffffff .word 0xffffffff\n00000008 0000100f .word 0x0000100f\n0000000c 043100b3 .word 0x043100b3\n",
         ),
         // the full fence, and that of reads and writes
         (

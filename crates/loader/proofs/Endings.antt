@@ -4,12 +4,13 @@ use Rattle.std.specs.Prelude.{IsOk}
 use Rattle.std.proofs.lemmas.List.{length-map, take_more, take-append-drop, length-take-le, map-append, take_all}
 use Rattle.history.specs.Layout.{Layout}
 use Rattle.elf32.specs.declared.faults.ElfFault.{ElfFault}
-use Rattle.elf32.specs.Files.{Executable, executable, elf_of, unless as elf_unless, first_fault as elf_fault}
+use Rattle.elf32.specs.Files.{Executable, executable, elf_of, first_broken_rule as elf_fault}
 use Rattle.loader.specs.declared.faults.PlaceFault.{PlaceFault}
 use Rattle.loader.specs.declared.faults.PlaceFault.TheVariants.{OutsideMemory, Overlap, EntryOutside, Memory}
 use Rattle.loader.specs.declared.placed.Placed.{Placed}
 use Rattle.loader.specs.declared.placing.Placing.{Placing}
-use Rattle.loader.specs.Placing.{Test, Answers, first_fault, segment_tests, segments, entries, tests_of, tests, image_of, unless, placed}
+use Rattle.loader.specs.Placing.{Test, AnswersPlacing, first_misplaced, segment_tests, segments, entries, tests_of, tests, image_of, placed}
+use Rattle.sequencing.specs.Results.{unless}
 use Rattle.loader.specs.Placing.Test.{TryEntry}
 use Rattle.loader.specs.Steps.{Passed, Fails}
 use Rattle.loader.proofs.Image.{image_is}
@@ -22,7 +23,7 @@ not_both (Err e) fault sound failed = absurd cc
 pub no_fault_read : (file : List ℕ) (fault : ElfFault) → IsOk (elf_of file) → elf_of file ≡ Err fault → ⊥
 no_fault_read file fault sound failed = not_both (elf_of file) fault sound failed
 
-what_is_found : (fault : Option ElfFault) (x elf : Executable) → elf_unless fault x ≡ Ok elf → elf ≡ x
+what_is_found : (fault : Option ElfFault) (x elf : Executable) → unless fault x ≡ Ok elf → elf ≡ x
 what_is_found None x elf found = cc
 what_is_found (Some fault) x elf found = absurd cc
 
@@ -53,11 +54,11 @@ fails_in_all fault l files k fails =
     sym (tests_of-append 1 front (map executable (drop k files))) ∙ ap (tests_of 1) (sym (map-append executable (take k files) (drop k files))) ∙ ap tests (take-append-drop k files) in
     subst (λ (ts : List Test). Fails fault l ts) whole (fails_more fault l (tests (take k files)) rest fails)
 
-found_fault : (l : Layout) (files : List (List ℕ)) (fault : PlaceFault) → first_fault l [] (tests files) ≡ Some fault → placed l files ≡ Err fault
+found_fault : (l : Layout) (files : List (List ℕ)) (fault : PlaceFault) → first_misplaced l [] (tests files) ≡ Some fault → placed l files ≡ Err fault
 unfolding placed
 found_fault l files fault found = ap (λ (o : Option PlaceFault). unless o (record { image = image_of l (segments (tests files)); entries = entries (tests files) })) found
 
-answers_err : (fault : PlaceFault) (l : Layout) (files : List (List ℕ)) → Fails fault l (tests files) → Answers (Err fault) (placed l files)
+answers_err : (fault : PlaceFault) (l : Layout) (files : List (List ℕ)) → Fails fault l (tests files) → AnswersPlacing (Err fault) (placed l files)
 answers_err Memory l files fails = tt
 answers_err (OutsideMemory a s) l files fails = found_fault l files (OutsideMemory a s) fails
 answers_err (Overlap a s w x) l files fails = found_fault l files (Overlap a s w x) fails
@@ -76,7 +77,7 @@ answers_ok l files state passed =
 
 -- the answer where the application at k fails
 pub answers_failure : (fault : PlaceFault) (l : Layout) (files : List (List ℕ)) (k : ℕ) (file : List ℕ) (elf : Executable) → k < length files → file ≡ get_or files k file → elf ≡ executable file
-    → Fails fault l (tests (take k files) ++ segment_tests (k + 1) 0 elf.segments ++ TryEntry (k + 1) elf.entry ∷ []) → Answers (Err fault) (placed l files)
+    → Fails fault l (tests (take k files) ++ segment_tests (k + 1) 0 elf.segments ++ TryEntry (k + 1) elf.entry ∷ []) → AnswersPlacing (Err fault) (placed l files)
 answers_failure fault l files k file elf below at is fails =
     answers_err fault l files (fails_in_all fault l files (k + 1) (subst (λ (ts : List Test). Fails fault l ts) (next_application files k file elf below at is) fails))
 

@@ -11,7 +11,7 @@ use Rattle.history.specs.Layout.{Layout, byte_count, past_end}
 use Rattle.history.specs.Memory.{Memory, bytes_from}
 use Rattle.elf32.specs.Files.{FileSegment}
 use Rattle.loader.specs.declared.spans.Span.{Span}
-use Rattle.loader.specs.Placing.{Test, Holds, covers, byte_at, overlaps, is_inside, span, spans, segments, placed_byte, image_of}
+use Rattle.loader.specs.Placing.{Test, Holds, spans_byte, byte_at, overlaps, is_inside, span, spans, segments, placed_byte, image_of}
 use Rattle.loader.specs.Steps.{Writes}
 use Rattle.loader.specs.Placing.Test.{TrySegment, TryEntry}
 
@@ -33,7 +33,7 @@ apart a al b bl x no' here = grind (arith, nat_tests)
 
 -- each of these segments shares no byte with s
 abbrev pub Apart : FileSegment → FileSegment → Type 0
-Apart s other = (x : ℕ) → covers other x ≡ true → covers s x ≡ false
+Apart s other = (x : ℕ) → spans_byte other x ≡ true → spans_byte s x ≡ false
 
 none_found : (p : Span → Bool) (e : Span) (rest : List Span) → cond (p e) (Some e) (find p rest) ≡ None → (p e ≡ false) × (find p rest ≡ None)
 none_found p e rest h = parts (p e) e (find p rest) h
@@ -92,7 +92,7 @@ pub holds_none : (l : Layout) (image : List ℕ) → image ≡ replicate (byte_c
 holds_none l image zeros count = record {
   count = count;
   inside = All-nil (λ s. (l.base ≤ s.addr) × (s.addr + s.size ≤ past_end l));
-  covered = All-nil (λ s. (x : ℕ) → covers s x ≡ true → slice_index image (x - l.base) ≡ byte_at s x);
+  covered = All-nil (λ s. (x : ℕ) → spans_byte s x ≡ true → slice_index image (x - l.base) ≡ byte_at s x);
   empty = λ x low high no'. ap (λ (xs : List ℕ). slice_index xs (x - l.base)) zeros ∙ zero_at (byte_count l) (x - l.base);
 }
   where
@@ -102,17 +102,17 @@ holds_none l image zeros count = record {
     zero_at (suc n) (suc k) = zero_at n k
 
 -- no earlier segment covers an address that s covers
-not_earlier : (ss : List FileSegment) (s : FileSegment) (x : ℕ) → All (Apart s) ss → covers s x ≡ true → list_any (λ t. covers t x) ss ≡ false
+not_earlier : (ss : List FileSegment) (s : FileSegment) (x : ℕ) → All (Apart s) ss → spans_byte s x ≡ true → list_any (λ t. spans_byte t x) ss ≡ false
 not_earlier ss s x apart_all here =
-    list_any_none (λ t. covers t x) ss (λ k d lt.
-    elim (bool_cases (covers (get_or ss k d) x)) [
-      | inl other ↦ absurd (clash (covers s x) here (apart_all k d lt x other))
+    list_any_none (λ t. spans_byte t x) ss (λ k d lt.
+    elim (bool_cases (spans_byte (get_or ss k d) x)) [
+      | inl other ↦ absurd (clash (spans_byte s x) here (apart_all k d lt x other))
       | inr no' ↦ no'
     ])
 
 -- the segment's own bytes
 own_bytes : (l : Layout) (old new : List ℕ) (ss : List FileSegment) (s : FileSegment) → Holds l old ss → l.base ≤ s.addr → s.addr + s.size ≤ past_end l → All (Apart s) ss → Writes l.base s.addr s.bytes old new
-    → (x : ℕ) → covers s x ≡ true → slice_index new (x - l.base) ≡ byte_at s x
+    → (x : ℕ) → spans_byte s x ≡ true → slice_index new (x - l.base) ≡ byte_at s x
 own_bytes l old new ss s was low high apart_all w x here =
     let at = covered_above s.addr s.size x here in
     let from : l.base ≤ x = omega (arith, at.0) in
@@ -132,7 +132,7 @@ holds_more l old new done app number s was within free fits w =
     let ss = segments done in
     let bounds = inside_parts l.base s.addr s.size (past_end l) within in
     let apart_all = all_apart done app number s free in
-    let earlier : All (λ t. (x : ℕ) → covers t x ≡ true → slice_index new (x - l.base) ≡ byte_at t x) ss = λ k d lt x here.
+    let earlier : All (λ t. (x : ℕ) → spans_byte t x ≡ true → slice_index new (x - l.base) ≡ byte_at t x) ss = λ k d lt x here.
     (let t : FileSegment = get_or ss k d in
     let at = covered_above t.addr t.size x here in
     let low : l.base ≤ x = omega (arith, at.0, (was.inside k d lt).0) in
@@ -140,24 +140,24 @@ holds_more l old new done app number s was within free fits w =
     record {
       count = w.count ∙ was.count;
       inside = All-push (λ t. (l.base ≤ t.addr) × (t.addr + t.size ≤ past_end l)) ss s was.inside bounds;
-      covered = All-push (λ t. (x : ℕ) → covers t x ≡ true → slice_index new (x - l.base) ≡ byte_at t x) ss s earlier (own_bytes l old new ss s was bounds.0 bounds.1 apart_all w);
+      covered = All-push (λ t. (x : ℕ) → spans_byte t x ≡ true → slice_index new (x - l.base) ≡ byte_at t x) ss s earlier (own_bytes l old new ss s was bounds.0 bounds.1 apart_all w);
       empty = λ x low high no'.
-          (let parts = or_parts (list_any (λ t. covers t x) ss) (covers s x || false) (sym (list_any-append (λ t. covers t x) ss (s ∷ [])) ∙ no') in
-          let own = or_parts (covers s x) false parts.1 in
+          (let parts = or_parts (list_any (λ t. spans_byte t x) ss) (spans_byte s x || false) (sym (list_any-append (λ t. spans_byte t x) ss (s ∷ [])) ∙ no') in
+          let own = or_parts (spans_byte s x) false parts.1 in
           kept_byte l.base s.addr x s.bytes old new w bounds.0 low (not_written s.addr s.size (length s.bytes) x fits own.0) ∙ was.empty x low high parts.0);
     }
 
 -- ---- the image as one list
 
-byte_is : (ss : List FileSegment) (x v : ℕ) → All (λ s. covers s x ≡ true → v ≡ byte_at s x) ss → (list_any (λ s. covers s x) ss ≡ false → v ≡ 0) → v ≡ placed_byte ss x
+byte_is : (ss : List FileSegment) (x v : ℕ) → All (λ s. spans_byte s x ≡ true → v ≡ byte_at s x) ss → (list_any (λ s. spans_byte s x) ss ≡ false → v ≡ 0) → v ≡ placed_byte ss x
 unfolding placed_byte
 byte_is [] x v own none = none refl
 byte_is (s ∷ ss) x v own none =
-    elim (bool_cases (covers s x)) [
-      | inl here ↦ All-head (λ t. covers t x ≡ true → v ≡ byte_at t x) s ss own here ∙ sym (ap (λ (b : Bool). if b then byte_at s x else placed_byte ss x) here)
+    elim (bool_cases (spans_byte s x)) [
+      | inl here ↦ All-head (λ t. spans_byte t x ≡ true → v ≡ byte_at t x) s ss own here ∙ sym (ap (λ (b : Bool). if b then byte_at s x else placed_byte ss x) here)
       | inr no' ↦
-          let any : list_any (λ t. covers t x) ss ≡ false → list_any (λ t. covers t x) (s ∷ ss) ≡ false = λ rest. ap (λ (b : Bool). b || list_any (λ t. covers t x) ss) no' ∙ rest in
-          byte_is ss x v (All-tail (λ t. covers t x ≡ true → v ≡ byte_at t x) s ss own) (λ rest. none (any rest))
+          let any : list_any (λ t. spans_byte t x) ss ≡ false → list_any (λ t. spans_byte t x) (s ∷ ss) ≡ false = λ rest. ap (λ (b : Bool). b || list_any (λ t. spans_byte t x) ss) no' ∙ rest in
+          byte_is ss x v (All-tail (λ t. spans_byte t x ≡ true → v ≡ byte_at t x) s ss own) (λ rest. none (any rest))
           ∙ sym (ap (λ (b : Bool). if b then byte_at s x else placed_byte ss x) no')
     ]
 

@@ -10,7 +10,7 @@ use Rattle.loader.specs.declared.faults.PlaceFault.{PlaceFault}
 use Rattle.loader.specs.declared.faults.PlaceFault.TheVariants.{OutsideMemory, Overlap, EntryOutside, Memory}
 use Rattle.loader.specs.declared.spans.Span.{Span}
 use Rattle.loader.specs.declared.placing.Placing.{Placing}
-use Rattle.loader.specs.Placing.{is_entry, Holds, segment_fault, is_inside, overlaps, Test, fault_of, first_fault, spans, segments, entries, span, segment_tests, tests_of}
+use Rattle.loader.specs.Placing.{is_entry, Holds, segment_fault, is_inside, overlaps, Test, fault_of, first_misplaced, spans, segments, entries, span, segment_tests, tests_of}
 use Rattle.loader.specs.Placing.Test.{TrySegment, TryEntry}
 use Rattle.loader.specs.Steps.{Passed, Fails, Outcome, Writes}
 use Rattle.loader.proofs.Image.{holds_more}
@@ -23,40 +23,40 @@ or_assoc : {X : Type 0} (x y z : Option X) → option_or x (option_or y z) ≡ o
 or_assoc None y z = refl
 or_assoc (Some x) y z = refl
 
-pub no_test : (l : Layout) (before : List Test) → first_fault l before [] ≡ None
-unfolding first_fault
+pub no_test : (l : Layout) (before : List Test) → first_misplaced l before [] ≡ None
+unfolding first_misplaced
 no_test l before = refl
 
-one_test : (l : Layout) (before : List Test) (t : Test) (rest : List Test) → first_fault l before (t ∷ rest) ≡ option_or (fault_of l before t) (first_fault l (before ++ t ∷ []) rest)
-unfolding first_fault
+one_test : (l : Layout) (before : List Test) (t : Test) (rest : List Test) → first_misplaced l before (t ∷ rest) ≡ option_or (fault_of l before t) (first_misplaced l (before ++ t ∷ []) rest)
+unfolding first_misplaced
 one_test l before t rest = refl
 
-pub first_fault-append : (l : Layout) (before a b : List Test) → first_fault l before (a ++ b) ≡ option_or (first_fault l before a) (first_fault l (before ++ a) b)
-first_fault-append l before [] b =
-    ap (λ (e : List Test). first_fault l e b) (sym (append-nil before))
-    ∙ ap (λ (x : Option PlaceFault). option_or x (first_fault l (before ++ []) b)) (sym (no_test l before))
-first_fault-append l before (t ∷ a) b =
+pub first_misplaced-append : (l : Layout) (before a b : List Test) → first_misplaced l before (a ++ b) ≡ option_or (first_misplaced l before a) (first_misplaced l (before ++ a) b)
+first_misplaced-append l before [] b =
+    ap (λ (e : List Test). first_misplaced l e b) (sym (append-nil before))
+    ∙ ap (λ (x : Option PlaceFault). option_or x (first_misplaced l (before ++ []) b)) (sym (no_test l before))
+first_misplaced-append l before (t ∷ a) b =
     one_test l before t (a ++ b)
-    ∙ ap (λ (x : Option PlaceFault). option_or (fault_of l before t) x) (first_fault-append l (before ++ t ∷ []) a b)
-    ∙ ap (λ (e : List Test). option_or (fault_of l before t) (option_or (first_fault l (before ++ t ∷ []) a) (first_fault l e b))) (append_assoc before (t ∷ []) a)
-    ∙ or_assoc (fault_of l before t) (first_fault l (before ++ t ∷ []) a) (first_fault l (before ++ t ∷ a) b)
-    ∙ ap (λ (x : Option PlaceFault). option_or x (first_fault l (before ++ t ∷ a) b)) (sym (one_test l before t a))
+    ∙ ap (λ (x : Option PlaceFault). option_or (fault_of l before t) x) (first_misplaced-append l (before ++ t ∷ []) a b)
+    ∙ ap (λ (e : List Test). option_or (fault_of l before t) (option_or (first_misplaced l (before ++ t ∷ []) a) (first_misplaced l e b))) (append_assoc before (t ∷ []) a)
+    ∙ or_assoc (fault_of l before t) (first_misplaced l (before ++ t ∷ []) a) (first_misplaced l (before ++ t ∷ a) b)
+    ∙ ap (λ (x : Option PlaceFault). option_or x (first_misplaced l (before ++ t ∷ a) b)) (sym (one_test l before t a))
 
 -- where the tests so far have passed, the next one decides
-pub next_test : (l : Layout) (done : List Test) (t : Test) → first_fault l [] done ≡ None → first_fault l [] (done ++ t ∷ []) ≡ fault_of l done t
+pub next_test : (l : Layout) (done : List Test) (t : Test) → first_misplaced l [] done ≡ None → first_misplaced l [] (done ++ t ∷ []) ≡ fault_of l done t
 next_test l done t sound =
-    first_fault-append l [] done (t ∷ [])
-    ∙ ap (λ (x : Option PlaceFault). option_or x (first_fault l done (t ∷ []))) sound
+    first_misplaced-append l [] done (t ∷ [])
+    ∙ ap (λ (x : Option PlaceFault). option_or x (first_misplaced l done (t ∷ []))) sound
     ∙ one_test l done t []
     ∙ ap (λ (x : Option PlaceFault). option_or (fault_of l done t) x) (no_test l (done ++ t ∷ []))
     ∙ none_or (fault_of l done t)
 
 -- a fault that was found stays the first
-pub stays_first : (l : Layout) (a b : List Test) (fault : PlaceFault) → first_fault l [] a ≡ Some fault → first_fault l [] (a ++ b) ≡ Some fault
+pub stays_first : (l : Layout) (a b : List Test) (fault : PlaceFault) → first_misplaced l [] a ≡ Some fault → first_misplaced l [] (a ++ b) ≡ Some fault
 stays_first l a b fault found =
-    first_fault-append l [] a b ∙ ap (λ (x : Option PlaceFault). option_or x (first_fault l a b)) found
+    first_misplaced-append l [] a b ∙ ap (λ (x : Option PlaceFault). option_or x (first_misplaced l a b)) found
 
-pub fails_with : (fault : PlaceFault) (l : Layout) (ts : List Test) → first_fault l [] ts ≡ Some fault → Fails fault l ts
+pub fails_with : (fault : PlaceFault) (l : Layout) (ts : List Test) → first_misplaced l [] ts ≡ Some fault → Fails fault l ts
 fails_with Memory l ts found = tt
 fails_with (OutsideMemory a s) l ts found = found
 fails_with (Overlap a s w x) l ts found = found

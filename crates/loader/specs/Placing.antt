@@ -10,6 +10,7 @@ use Rattle.loader.specs.declared.faults.PlaceFault.{PlaceFault}
 use Rattle.loader.specs.declared.faults.PlaceFault.TheVariants.{OutsideMemory, Overlap, EntryOutside, Memory}
 use Rattle.loader.specs.declared.spans.Span.{Span}
 use Rattle.loader.specs.declared.placed.Placed.{Placed}
+use Rattle.sequencing.specs.Results.{unless}
 
 -- What is tried, in order: each segment of an application, then its entry. Applications are numbered from 1,
 -- segments from 0.
@@ -68,13 +69,13 @@ fault_of l before (TrySegment app number s) = segment_fault l (spans before) (sp
 fault_of l before (TryEntry app entry) = if is_entry l entry then None else Some (EntryOutside app)
 
 -- the fault of the first test that fails; those before it have passed
-unfoldable pub first_fault : Layout → List Test → List Test → Option PlaceFault
-first_fault l before [] = None
-first_fault l before (t ∷ rest) = option_or (fault_of l before t) (first_fault l (before ++ t ∷ []) rest)
+unfoldable pub first_misplaced : Layout → List Test → List Test → Option PlaceFault
+first_misplaced l before [] = None
+first_misplaced l before (t ∷ rest) = option_or (fault_of l before t) (first_misplaced l (before ++ t ∷ []) rest)
 
 -- the segment covers the address
-abbrev pub covers : FileSegment → ℕ → Bool
-covers s x = nat_le s.addr x && nat_lt x (s.addr + s.size)
+abbrev pub spans_byte : FileSegment → ℕ → Bool
+spans_byte s x = nat_le s.addr x && nat_lt x (s.addr + s.size)
 
 -- its byte there: zero past the bytes that it begins with
 abbrev pub byte_at : FileSegment → ℕ → ℕ
@@ -83,15 +84,11 @@ byte_at s x = slice_index s.bytes (x - s.addr)
 -- the byte of the segment that covers the address, or zero
 unfoldable pub placed_byte : List FileSegment → ℕ → ℕ
 placed_byte [] x = 0
-placed_byte (s ∷ rest) x = if covers s x then byte_at s x else placed_byte rest x
+placed_byte (s ∷ rest) x = if spans_byte s x then byte_at s x else placed_byte rest x
 
 -- memory's bytes, by rising address
 unfoldable pub image_of : Layout → List FileSegment → List ℕ
 image_of l ss = bytes_from (placed_byte ss) l.base (byte_count l)
-
-abbrev pub unless : Option PlaceFault → Placed → Result Placed PlaceFault
-unless None found = Ok found
-unless (Some fault) found = Err fault
 
 -- the tests of applications that stand in these files, in order
 abbrev pub tests : List (List ℕ) → List Test
@@ -99,20 +96,20 @@ tests files = tests_of 1 (map executable files)
 
 -- the first fault, or memory's bytes by rising address and the entries
 unfoldable pub placed : Layout → List (List ℕ) → Result Placed PlaceFault
-placed l files = unless (first_fault l [] (tests files)) (record { image = image_of l (segments (tests files)); entries = entries (tests files) })
+placed l files = unless (first_misplaced l [] (tests files)) (record { image = image_of l (segments (tests files)); entries = entries (tests files) })
 
 -- a call gave what placing gives, or ran out of memory
-abbrev pub Answers : Result Placed PlaceFault → Result Placed PlaceFault → Type 0
-Answers (Ok given) found = found ≡ Ok given
-Answers (Err Memory) found = Unit {0}
-Answers (Err (OutsideMemory app segment)) found = found ≡ Err (OutsideMemory app segment)
-Answers (Err (Overlap app segment with_app with_segment)) found = found ≡ Err (Overlap app segment with_app with_segment)
-Answers (Err (EntryOutside app)) found = found ≡ Err (EntryOutside app)
+abbrev pub AnswersPlacing : Result Placed PlaceFault → Result Placed PlaceFault → Type 0
+AnswersPlacing (Ok given) found = found ≡ Ok given
+AnswersPlacing (Err Memory) found = Unit {0}
+AnswersPlacing (Err (OutsideMemory app segment)) found = found ≡ Err (OutsideMemory app segment)
+AnswersPlacing (Err (Overlap app segment with_app with_segment)) found = found ≡ Err (Overlap app segment with_app with_segment)
+AnswersPlacing (Err (EntryOutside app)) found = found ≡ Err (EntryOutside app)
 
 -- The bytes of memory with these segments in it: each segment lies in memory, a byte that a segment covers is that
 -- segment's, and a byte that none covers is zero.
 pub record Holds (l : Layout) (image : List ℕ) (ss : List FileSegment) : Type 0 where
   pub count : length image ≡ byte_count l
   pub inside : All (λ s. (l.base ≤ s.addr) × (s.addr + s.size ≤ past_end l)) ss
-  pub covered : All (λ s. (x : ℕ) → covers s x ≡ true → slice_index image (x - l.base) ≡ byte_at s x) ss
-  pub empty : (x : ℕ) → l.base ≤ x → x < past_end l → list_any (λ s. covers s x) ss ≡ false → slice_index image (x - l.base) ≡ 0
+  pub covered : All (λ s. (x : ℕ) → spans_byte s x ≡ true → slice_index image (x - l.base) ≡ byte_at s x) ss
+  pub empty : (x : ℕ) → l.base ≤ x → x < past_end l → list_any (λ s. spans_byte s x) ss ≡ false → slice_index image (x - l.base) ≡ 0

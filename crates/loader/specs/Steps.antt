@@ -4,11 +4,11 @@ use Rattle.history.specs.Layout.{Layout}
 use Rattle.loader.specs.declared.faults.PlaceFault.{PlaceFault}
 use Rattle.loader.specs.declared.faults.PlaceFault.TheVariants.{OutsideMemory, Overlap, EntryOutside, Memory}
 use Rattle.loader.specs.declared.placing.Placing.{Placing}
-use Rattle.loader.specs.Placing.{Test, Holds, first_fault, spans, segments, entries, is_entry}
+use Rattle.loader.specs.Placing.{Test, Holds, first_misplaced, spans, segments, entries, is_entry}
 
 -- these tests have passed, and the state has what they placed
 pub record Passed (l : Layout) (done : List Test) (state : Placing) : Type 0 where
-  pub sound : first_fault l [] done ≡ None
+  pub sound : first_misplaced l [] done ≡ None
   pub spans_are : state.spans.items ≡ spans done
   pub entries_are : state.entries.items ≡ entries done
   pub entries_fit : All (λ entry. is_entry l entry ≡ true) (entries done)
@@ -17,9 +17,9 @@ pub record Passed (l : Layout) (done : List Test) (state : Placing) : Type 0 whe
 -- one of these tests fails first, with this fault; or memory ran out
 abbrev pub Fails : PlaceFault → Layout → List Test → Type 0
 Fails Memory l tests = Unit {0}
-Fails (OutsideMemory app segment) l tests = first_fault l [] tests ≡ Some (OutsideMemory app segment)
-Fails (Overlap app segment with_app with_segment) l tests = first_fault l [] tests ≡ Some (Overlap app segment with_app with_segment)
-Fails (EntryOutside app) l tests = first_fault l [] tests ≡ Some (EntryOutside app)
+Fails (OutsideMemory app segment) l tests = first_misplaced l [] tests ≡ Some (OutsideMemory app segment)
+Fails (Overlap app segment with_app with_segment) l tests = first_misplaced l [] tests ≡ Some (Overlap app segment with_app with_segment)
+Fails (EntryOutside app) l tests = first_misplaced l [] tests ≡ Some (EntryOutside app)
 
 -- how the tests end, with this state afterwards
 abbrev pub Outcome : Layout → List Test → Placing → Result (Unit {0}) PlaceFault → Type 0

@@ -2,7 +2,7 @@
 
 ghost use Rattle.std.specs.Prelude.{◌≡◌, ◌≤◌, true, length, All, IfOk, IsOk};
 ghost use Rattle.elf32.specs.Files.{elf_of};
-ghost use Rattle.loader.specs.Placing.{Answers, Holds, placed, tests, segments, is_entry};
+ghost use Rattle.loader.specs.Placing.{AnswersPlacing, Holds, placed, tests, segments, is_entry};
 
 use crate::faults::PlaceFault;
 use crate::files::AppFile;
@@ -18,7 +18,7 @@ use std::alloc::Global;
 pub fn place(alloc: Global, geometry: &Geometry, files: &[AppFile]) -> Result<Placed, PlaceFault>
     requires few { length files.now ≤ 8 }
     requires sound { All (λ file. IsOk (elf_of file)) files.now }
-    ensures answer { Answers result (placed geometry.now files.now) }
+    ensures answer { AnswersPlacing result (placed geometry.now files.now) }
     ensures image { IfOk result (λ given. Holds geometry.now given.image (segments (tests files.now))) }
     ensures count { IfOk result (λ given. length given.entries ≡ length files.now) }
     ensures entries { IfOk result (λ given. All (λ entry. is_entry geometry.now entry ≡ true) given.entries) }

@@ -6,7 +6,7 @@ ghost use Rattle.elf32.specs.Files.{elf_of};
 use super::*;
 use block_memory::Geometry;
 use elf32::{read, write};
-use program::{Program, Segment};
+use executable::{Program, Segment};
 use std::alloc::Global;
 use std::test::Fail;
 

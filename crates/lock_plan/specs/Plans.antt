@@ -1,8 +1,10 @@
 -- What a plan keeps of the pass that the last Start opened: enough for its locks and for its next step.
-use Rattle.std.specs.Prelude.{ℕ, suc, ◌+◌, ◌-◌, Bool, true, false, not, ◌&&◌, nat_le, nat_lt, if◌then◌else◌, List, Option, Some, None}
+use Rattle.std.specs.Prelude.{ℕ, suc, Bool, true, false, not, ◌&&◌, nat_lt, if◌then◌else◌, List, Option, Some, None}
 use Rattle.std.specs.Option.{option_map}
 use Rattle.history.specs.declared.events.Discipline.{Discipline}
 use Rattle.history.specs.declared.events.Entry.{Entry}
+use Rattle.history.specs.declared.ranges.Range.{Range}
+use Rattle.history.specs.Attested.{is_attested, index_of, attested_block, total}
 use Rattle.history.specs.Pass.{Pass, pass_after, copied_of, is_ended, is_released, is_extended}
 use Rattle.history.specs.Locks.{locks}
 use Rattle.lock_plan.specs.declared.steps.PlanStep.{PlanStep}
@@ -15,10 +17,9 @@ pub record PassState : Type 0 where
   pub ended : Bool
   pub released : Bool
 
--- A plan: the first attested block, how many blocks are attested, and the pass; None before the first Start.
+-- A plan: the ranges of the attested blocks, and the pass; None before the first Start.
 pub record PlanState : Type 0 where
-  pub first : ℕ
-  pub blocks : ℕ
+  pub ranges : List Range
   pub pass : Option PassState
 
 -- the pass in short
@@ -26,8 +27,8 @@ abbrev pub state_of : Pass → PassState
 state_of pass = record { discipline = pass.discipline; copied = copied_of pass; ended = is_ended pass; released = is_released pass }
 
 -- the plan after these entries, the newest first
-abbrev pub plan_after : ℕ → ℕ → List Entry → PlanState
-plan_after first blocks past = record { first = first; blocks = blocks; pass = option_map state_of (pass_after past) }
+abbrev pub plan_after : List Range → List Entry → PlanState
+plan_after ranges past = record { ranges = ranges; pass = option_map state_of (pass_after past) }
 
 -- a pass after so many copies, with or without End, with or without Release
 abbrev pub pass_with : ℕ → Bool → Bool → Discipline → PassState
@@ -58,21 +59,21 @@ state_locks (Some pass) index = locks pass.discipline pass.copied pass.ended pas
 
 -- the plan locks the block
 abbrev pub plan_locks : PlanState → ℕ → Bool
-plan_locks plan block = nat_le plan.first block && nat_lt block (plan.first + plan.blocks) && state_locks plan.pass (block - plan.first)
+plan_locks plan block = is_attested plan.ranges block && state_locks plan.pass (index_of plan.ranges block)
 
--- What comes next in a pass: the blocks by rising address, then End, then Release where the discipline is
--- extended; then a new pass.
-abbrev pub step_in : ℕ → ℕ → PassState → PlanStep
-step_in first blocks pass = if pass.ended then (if is_extended pass.discipline && not pass.released then Release else Start) else (if nat_lt pass.copied blocks then Copy (first + pass.copied) else End)
+-- What comes next in a pass: the attested blocks by rising address, then End, then Release where the
+-- discipline is extended; then a new pass.
+abbrev pub step_in : List Range → PassState → PlanStep
+step_in ranges pass = if pass.ended then (if is_extended pass.discipline && not pass.released then Release else Start) else (if nat_lt pass.copied (total ranges) then Copy (attested_block ranges pass.copied) else End)
 
 -- the same; before the first Start, a Start
-abbrev pub step_of : ℕ → ℕ → Option PassState → PlanStep
-step_of first blocks None = Start
-step_of first blocks (Some pass) = step_in first blocks pass
+abbrev pub step_after : List Range → Option PassState → PlanStep
+step_after ranges None = Start
+step_after ranges (Some pass) = step_in ranges pass
 
 -- the step that comes next
 abbrev pub next_step : PlanState → PlanStep
-next_step plan = step_of plan.first plan.blocks plan.pass
+next_step plan = step_after plan.ranges plan.pass
 
 -- the step copies a block
 abbrev pub is_copy_step : PlanStep → Bool

@@ -4,23 +4,28 @@
 //! twice, by the plan's own state and by any history that has led to it.
 //!
 //! ```rust
-//! use lock_plan::{Discipline, Plan, PlanStep};
+//! use lock_plan::{Discipline, Plan, PlanStep, Range, Ranges};
 //!
-//! let mut plan = Plan::new(3, 2); // blocks 3 and 4 are attested
+//! let list = [Range { first: 3, attested: 1 }, Range { first: 5, attested: 1 }];
+//! let ranges = Ranges::new(&list).ok_or("no such ranges")?; // blocks 3 and 5 are attested
+//! let mut plan = Plan::new(ranges);
 //! plan.start(Discipline::Dec);
 //! plan.copied();
-//! let freed = !plan.is_locked(3) && plan.is_locked(4);
-//! let again = plan.next() == PlanStep::Copy(4);
+//! let freed = !plan.is_locked(3) && plan.is_locked(5);
+//! let again = plan.next() == PlanStep::Copy(5);
 //! ```
 #![tactic(auto)]
 
+mod bits;
 mod laws;
 mod plans;
+mod ranges;
 mod steps;
 #[cfg(test)]
 mod tests;
 
-pub use history::Discipline;
+pub use history::{Discipline, Range};
 pub use laws::{order_gives_next_step, others_leave_plan};
 pub use plans::Plan;
+pub use ranges::Ranges;
 pub use steps::PlanStep;

@@ -1,9 +1,10 @@
 //! The plan of a measurement: the state of its last pass.
 
-ghost use Rattle.std.specs.Prelude.{◌≡◌, ℕ, ◌+◌, ◌^◌, ◌<◌, ◌≤◌, ◌↔◌, IsTrue, List, [], ◌∷◌};
+ghost use Rattle.std.specs.Prelude.{◌≡◌, ℕ, ◌↔◌, IsTrue, List, [], ◌∷◌};
 ghost use Rattle.history.specs.declared.events.Act.TheVariants.{Start, Copy, End, Release};
 ghost use Rattle.history.specs.declared.events.Discipline.{Discipline};
 ghost use Rattle.history.specs.declared.events.Entry.{Entry};
+ghost use Rattle.history.specs.declared.ranges.Range.{Range};
 ghost use Rattle.history.specs.Layout.{Setting};
 ghost use Rattle.history.specs.Pass.{pass_after};
 ghost use Rattle.history.specs.Locks.{is_locked};
@@ -11,55 +12,61 @@ ghost use Rattle.history.specs.Legal.{in_order};
 ghost use Rattle.history.specs.Worked.{measurer};
 ghost use Rattle.lock_plan.specs.Plans.{plan_after, plan_locks, next_step, is_copy_step, after_start, pass_changed, with_copy, with_end, with_release};
 
+use crate::bits;
+use crate::ranges::Ranges;
 use crate::steps::PlanStep;
-use history::Discipline;
+use history::{Discipline, blocks_in_order};
 use std::marker::Model;
 
 /// Which attested blocks are locked, and which step of the measurement comes next. Clauses see it as the
 /// `PlanState` of `specs/Plans.antt`.
 #[derive(Drop)]
 pub struct Plan {
-    first: u32,
-    blocks: u32,
+    ranges: Ranges,
+    attested: u32,
 
     // None before the first Start
     discipline: Option<Discipline>,
     copied: u32,
     ended: bool,
     released: bool,
+
+    // a bit for each index of an attested block: the block is locked
+    locked: [u64; 64],
 }
 
 impl Model for Plan {
-    ghost use Rattle.std.specs.Prelude.{◌+◌, ◌^◌, ◌<◌, ◌≤◌};
+    ghost use Rattle.std.specs.Prelude.{◌≡◌, ℕ, ◌<◌, ◌≤◌, false};
     ghost use Rattle.std.specs.Option.{option_map};
-    ghost use Rattle.lock_plan.specs.Plans.{PlanState, pass_with};
+    ghost use Rattle.history.specs.Attested.{IsRanges, total};
+    ghost use Rattle.lock_plan.specs.Plans.{PlanState, pass_with, state_locks};
+    ghost use Rattle.lock_plan.specs.Tables.{has_bit};
 
     ghost Value = { PlanState };
 
     ghost view = { λ p. record {
-      first = p.first;
-      blocks = p.blocks;
+      ranges = p.ranges;
       pass = option_map (pass_with p.copied p.ended p.released) p.discipline;
     } };
 
-    ghost invariant = { λ p. (1 ≤ p.blocks) × (p.first + p.blocks < 2 ^ 32) × (p.copied ≤ p.blocks) };
+    ghost invariant = { λ p. IsRanges p.ranges × (p.attested ≡ total p.ranges) × (p.attested ≤ 4096)
+        × (p.copied ≤ p.attested) × (p.ended ≡ false → p.released ≡ false) × ((index : ℕ) → index < p.attested
+        → has_bit p.locked index ≡ state_locks (option_map (pass_with p.copied p.ended p.released) p.discipline) index) };
 }
 
 impl Plan {
-    /// A plan for so many attested blocks, from block `first` of memory on, before any pass. Blocks are
-    /// numbered from 0, the first of memory.
-    pub fn new(first: u32, blocks: u32) -> Plan
-        requires some { 1 ≤ blocks }
-        requires fit { first + blocks < 2 ^ 32 }
-        ensures { result ≡ plan_after first blocks [] }
+    /// A plan for these attested blocks, before any pass.
+    pub fn new(ranges: Ranges) -> Plan
+        ensures { result ≡ plan_after ranges [] }
     {
         Plan {
-            first,
-            blocks,
+            ranges,
+            attested: ranges.total(),
             discipline: None,
             copied: 0,
             ended: false,
             released: false,
+            locked: bits::filled(0),
         }
     }
 
@@ -67,10 +74,11 @@ impl Plan {
     pub fn start(&mut self, discipline: Discipline)
         requires { next_step self.old ≡ PlanStep.Start }
         ensures state { self.new ≡ after_start discipline self.old }
-        ensures history { (first blocks counter : ℕ) (past : List Entry)
-            → self.old ≡ plan_after first blocks past
-            → self.new ≡ plan_after first blocks (measurer (Start discipline counter) ∷ past) }
+        ensures history { (ranges : List Range) (counter : ℕ) (past : List Entry)
+            → self.old ≡ plan_after ranges past
+            → self.new ≡ plan_after ranges (measurer (Start discipline counter) ∷ past) }
     {
+        self.locked = bits::at_start(discipline);
         self.discipline = Some(discipline);
         self.copied = 0;
         self.ended = false;
@@ -81,10 +89,11 @@ impl Plan {
     pub fn copied(&mut self)
         requires { IsTrue (is_copy_step (next_step self.old)) }
         ensures state { self.new ≡ pass_changed with_copy self.old }
-        ensures history { (first blocks block : ℕ) (past : List Entry)
-            → self.old ≡ plan_after first blocks past
-            → self.new ≡ plan_after first blocks (measurer (Copy block) ∷ past) }
+        ensures history { (ranges : List Range) (block : ℕ) (past : List Entry)
+            → self.old ≡ plan_after ranges past
+            → self.new ≡ plan_after ranges (measurer (Copy block) ∷ past) }
     {
+        bits::copy(&mut self.locked, self.copied, self.discipline);
         self.copied += 1;
     }
 
@@ -92,10 +101,11 @@ impl Plan {
     pub fn ended(&mut self)
         requires { next_step self.old ≡ PlanStep.End }
         ensures state { self.new ≡ pass_changed with_end self.old }
-        ensures history { (first blocks : ℕ) (past : List Entry)
-            → self.old ≡ plan_after first blocks past
-            → self.new ≡ plan_after first blocks (measurer End ∷ past) }
+        ensures history { (ranges : List Range) (past : List Entry)
+            → self.old ≡ plan_after ranges past
+            → self.new ≡ plan_after ranges (measurer End ∷ past) }
     {
+        bits::end(&mut self.locked, self.discipline);
         self.ended = true;
     }
 
@@ -104,10 +114,11 @@ impl Plan {
     pub fn released(&mut self)
         requires { next_step self.old ≡ PlanStep.Release }
         ensures state { self.new ≡ pass_changed with_release self.old }
-        ensures history { (first blocks : ℕ) (past : List Entry)
-            → self.old ≡ plan_after first blocks past
-            → self.new ≡ plan_after first blocks (measurer Release ∷ past) }
+        ensures history { (ranges : List Range) (past : List Entry)
+            → self.old ≡ plan_after ranges past
+            → self.new ≡ plan_after ranges (measurer Release ∷ past) }
     {
+        self.locked = bits::filled(0);
         self.released = true;
     }
 
@@ -115,20 +126,12 @@ impl Plan {
     pub fn is_locked(&self, block: u32) -> bool
         ensures state { result ≡ plan_locks self.now block }
         ensures history { (w : Setting) (past : List Entry)
-            → self.now ≡ plan_after w.first w.attested past
+            → self.now ≡ plan_after w.ranges past
             → result ≡ is_locked w past block }
     {
-        if block < self.first || block - self.first >= self.blocks {
-            return false;
-        }
-        let index = block - self.first;
-        match self.discipline {
+        match self.ranges.index(block) {
             None => false,
-            Some(Discipline::All) => !self.ended,
-            Some(Discipline::AllExt) => !self.released,
-            Some(Discipline::Dec) => !self.ended && self.copied <= index,
-            Some(Discipline::Inc) => !self.ended && index < self.copied,
-            Some(Discipline::IncExt) => !self.released && index < self.copied,
+            Some(index) => bits::bit(&self.locked, index),
         }
     }
 
@@ -137,24 +140,25 @@ impl Plan {
     pub fn next(&self) -> PlanStep
         ensures state { result ≡ next_step self.now }
         ensures start { (w : Setting) (past : List Entry) (discipline : Discipline) (counter : ℕ)
-            → self.now ≡ plan_after w.first w.attested past
+            → self.now ≡ plan_after w.ranges past
             → ((result ≡ PlanStep.Start) ↔ IsTrue (in_order w (pass_after past) (Start discipline counter))) }
         ensures copy { (w : Setting) (past : List Entry) (block : ℕ)
-            → self.now ≡ plan_after w.first w.attested past
+            → self.now ≡ plan_after w.ranges past
             → ((result ≡ PlanStep.Copy block) ↔ IsTrue (in_order w (pass_after past) (Copy block))) }
         ensures end { (w : Setting) (past : List Entry)
-            → self.now ≡ plan_after w.first w.attested past
+            → self.now ≡ plan_after w.ranges past
             → ((result ≡ PlanStep.End) ↔ IsTrue (in_order w (pass_after past) End)) }
         ensures release { (w : Setting) (past : List Entry)
-            → self.now ≡ plan_after w.first w.attested past
+            → self.now ≡ plan_after w.ranges past
             → ((result ≡ PlanStep.Release) ↔ IsTrue (in_order w (pass_after past) Release)) }
     {
+        blocks_in_order();
         let Some(discipline) = self.discipline else {
             return PlanStep::Start;
         };
         if !self.ended {
-            if self.copied < self.blocks {
-                return PlanStep::Copy(self.first + self.copied);
+            if self.copied < self.attested {
+                return PlanStep::Copy(self.ranges.block(self.copied));
             }
             return PlanStep::End;
         }

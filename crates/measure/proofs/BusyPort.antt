@@ -8,14 +8,14 @@ use Rattle.history.specs.Pass.{pass_after}
 use Rattle.history.specs.Legal.{IsLegal, in_order}
 use Rattle.chronicle.specs.declared.answers.Step.{Step}
 use Rattle.chronicle.specs.declared.answers.Step.TheVariants.{Done, Full}
-use Rattle.chronicle.specs.Ports.{Adds, HasStepped, OthersFollow}
+use Rattle.chronicle.specs.Ports.{AddsEntry, HasStepped, OthersFollow}
 use Rattle.measure.proofs.Steps.{OrderStays, OwnNone}
 
 abbrev pub OthersJoin : Type 0
 OthersJoin = (low high : ℕ) (first second third : List Entry) → OthersFollow low high first second → OthersFollow low high second third → OthersFollow low high first third
 
 abbrev pub AddedJoin : Type 0
-AddedJoin = (low high : ℕ) (first second third : List Entry) (entry : Entry) → OthersFollow low high first second → Adds low high second third entry → Adds low high first third entry
+AddedJoin = (low high : ℕ) (first second third : List Entry) (entry : Entry) → OthersFollow low high first second → AddsEntry low high second third entry → AddsEntry low high first third entry
 
 pub in_order_after : OrderStays → OwnNone → (w : Setting) (old middle : List Entry) (a : Act) → IsLegal w middle → OthersFollow 0 1 old middle → IsTrue (in_order w (pass_after (reverse old)) a) → IsTrue (in_order w (pass_after (reverse middle)) a)
 in_order_after order none w old middle a legal f may =

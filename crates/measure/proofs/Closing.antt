@@ -1,15 +1,18 @@
 -- End, and what comes after it.
 use Rattle.std.proofs.Common.{◌≡◌, ℕ, true, false, List, [], ◌∷◌, ◌++◌, length, reverse, replicate, refl, sym, ap, ◌∙◌, subst}
-use Rattle.std.proofs.lemmas.List.{length-append}
+use Rattle.std.proofs.lemmas.List.{length-append, reverse-append}
+use Rattle.std.proofs.Math.Seq.{take-length}
 use Rattle.history.specs.declared.events.Act.TheVariants.{End, Tick, Release}
 use Rattle.history.specs.declared.events.Entry.{Entry}
+use Rattle.history.specs.Attested.{total}
 use Rattle.history.specs.Layout.{Setting}
+use Rattle.history.specs.Memory.{back}
 use Rattle.history.specs.Pass.{is_extended}
 use Rattle.history.specs.Legal.{IsLegal}
 use Rattle.history.specs.Copied.{copied_bytes}
 use Rattle.challenge.specs.declared.Challenge.{Challenge}
 use Rattle.challenge.specs.Challenges.{asked_by}
-use Rattle.chronicle.specs.Ports.{Adds, IsDone, IsFull, IsMeasurer, entry_by}
+use Rattle.chronicle.specs.Ports.{AddsEntry, IsDone, IsFull, IsMeasurer, entry_by}
 use Rattle.report.specs.declared.Report.{Report}
 use Rattle.report.specs.declared.Note.{Note}
 use Rattle.report.specs.Tags.{report_tag, note_tag}
@@ -21,17 +24,17 @@ use Rattle.measure.specs.Passing.{EndsHere, HasClosed, IsEnded, IsPassing, IsUnd
 use Rattle.measure.proofs.Parts.{MadeAdded, MadeMore, MadeOthers, cut_there, cut_within, own_adds}
 
 abbrev pub Ends : Type 0
-Ends = (w : Setting) (old new : List Entry) (c : Challenge) (start : ℕ) → IsLegal w new → Adds 0 1 old new (entry_by 0 End) → IsUnderWay w old c start w.attested false → EndsHere w old new c start
+Ends = (w : Setting) (old new : List Entry) (c : Challenge) (start : ℕ) → IsLegal w new → AddsEntry 0 1 old new (entry_by 0 End) → IsUnderWay w old c start (total w.ranges) false → EndsHere w old new c start
 
 abbrev pub Releases : Type 0
-Releases = (w : Setting) (old new : List Entry) (c : Challenge) (start : ℕ) → IsLegal w new → Adds 0 1 old new (entry_by 0 Release) → IsUnderWay w old c start w.attested true → ReleasesHere new c start
+Releases = (w : Setting) (old new : List Entry) (c : Challenge) (start : ℕ) → IsLegal w new → AddsEntry 0 1 old new (entry_by 0 Release) → IsUnderWay w old c start (total w.ranges) true → ReleasesHere new c start
 
 -- the report on a pass that ends here, with this tag
 abbrev pub report_with : Passing → ℕ → List ℕ → Report
 report_with p place tag = record { discipline = p.challenge.discipline; counter = p.challenge.counter; nonce = p.challenge.nonce; shape = p.shape; start = p.start; end = place; tag = tag }
 
 pub ended_on : MadeAdded → Ends → (key : List ℕ) (w : Setting) (low high : ℕ) → IsMeasurer low high → (old new : List Entry) (p : Passing) (place : ℕ) (tag : List ℕ)
-    → IsLegal w new → IsDone low high old new End place → IsPassing w old w.attested p
+    → IsLegal w new → IsDone low high old new End place → IsPassing w old (total w.ranges) p
     → tag ≡ report_tag key (asked_by p.challenge) p.shape (copied_bytes w (reverse old)) p.start place
     → IsEnded key w p old new (attested.Ended (report_with p place tag))
 ended_on added ends key w low high m old new p place tag legal done passing tagged =
@@ -79,7 +82,7 @@ release_full more others w c low high m first old new place extended entries leg
 
 -- Release, and the note on it
 pub released_on : MadeMore → MadeAdded → Releases → (key : List ℕ) (w : Setting) (c : Challenge) (r : Report) (low high : ℕ) → IsMeasurer low high → (first old new : List Entry) (n : Note)
-    → is_extended c.discipline ≡ true → HasMade first old (replicate c.hold Tick) → IsUnderWay w old c r.start w.attested true → IsLegal w new → IsDone low high old new Release n.release
+    → is_extended c.discipline ≡ true → HasMade first old (replicate c.hold Tick) → IsUnderWay w old c r.start (total w.ranges) true → IsLegal w new → IsDone low high old new Release n.release
     → n.counter ≡ r.counter → n.start ≡ r.start → n.end ≡ r.end → n.tag ≡ note_tag key r.counter r.start r.end n.release r.tag
     → HasClosed key w c r first new (closed.Released n)
 released_on more added releases key w c r low high m first old new n extended entries u legal done counter start end tagged =
@@ -92,10 +95,10 @@ released_on more added releases key w c r low high m first old new n extended en
         counter = counter;
         start = start;
         end = end;
-        place = done.1;
-        before = e.before;
-        last = e.last;
+        past = reverse e.before;
+        here = ap (back new) done.1 ∙ ap reverse (take-length new) ∙ ap reverse e.last ∙ reverse-append e.before (entry_by 0 Release ∷ []);
         releases = rw done.1 e.releases;
         tag = rw (counter, start, end) tagged;
       },
+      done.1,
     )

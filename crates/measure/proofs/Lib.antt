@@ -6,3 +6,6 @@ pub mod Closing
 pub mod Whole
 pub mod Machines
 pub mod BusyPort
+pub mod Blocks
+pub mod Programs
+pub mod Later

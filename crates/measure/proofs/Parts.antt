@@ -6,7 +6,7 @@ use Rattle.history.specs.declared.events.Act.TheVariants.{Tick}
 use Rattle.history.specs.declared.events.Entry.{Entry}
 use Rattle.history.specs.Layout.{Setting}
 use Rattle.history.specs.Legal.{IsLegal}
-use Rattle.chronicle.specs.Ports.{Adds, IsFull, IsMeasurer, OthersFollow, entry_by}
+use Rattle.chronicle.specs.Ports.{AddsEntry, IsFull, IsMeasurer, OthersFollow, entry_by}
 use Rattle.measure.specs.Program.{HasMade, IsCut}
 use Rattle.measure.specs.Passing.{MetFull}
 
@@ -17,17 +17,17 @@ abbrev pub MadeOthers : Type 0
 MadeOthers = (old new : List Entry) → OthersFollow 0 1 old new → HasMade old new []
 
 abbrev pub MadeAdded : Type 0
-MadeAdded = (old new : List Entry) (a : Act) → Adds 0 1 old new (entry_by 0 a) → HasMade old new (a ∷ [])
+MadeAdded = (old new : List Entry) (a : Act) → AddsEntry 0 1 old new (entry_by 0 a) → HasMade old new (a ∷ [])
 
 -- the answers of a port whose range is the measurer
-pub own_adds : (low high : ℕ) → IsMeasurer low high → (old new : List Entry) (a : Act) → Adds low high old new (entry_by low a) → Adds 0 1 old new (entry_by 0 a)
-own_adds low high m old new a h = subst (λ l. Adds l 1 old new (entry_by l a)) m.0 (subst (λ u. Adds low u old new (entry_by low a)) m.1 h)
+pub own_adds : (low high : ℕ) → IsMeasurer low high → (old new : List Entry) (a : Act) → AddsEntry low high old new (entry_by low a) → AddsEntry 0 1 old new (entry_by 0 a)
+own_adds low high m old new a h = subst (λ l. AddsEntry l 1 old new (entry_by l a)) m.0 (subst (λ u. AddsEntry low u old new (entry_by low a)) m.1 h)
 
 own_follows : (low high : ℕ) → IsMeasurer low high → (old new : List Entry) → OthersFollow low high old new → OthersFollow 0 1 old new
 own_follows low high m old new f = subst (λ l. OthersFollow l 1 old new) m.0 (subst (λ u. OthersFollow low u old new) m.1 f)
 
 -- one act more
-pub made_next : MadeMore → MadeAdded → (low high : ℕ) → IsMeasurer low high → (first old new : List Entry) (made : List Act) (a : Act) → HasMade first old made → Adds low high old new (entry_by low a) → HasMade first new (made ++ a ∷ [])
+pub made_next : MadeMore → MadeAdded → (low high : ℕ) → IsMeasurer low high → (first old new : List Entry) (made : List Act) (a : Act) → HasMade first old made → AddsEntry low high old new (entry_by low a) → HasMade first new (made ++ a ∷ [])
 made_next more added low high m first old new made a entries h = more first old new made (a ∷ []) entries (added old new a (own_adds low high m old new a h))
 
 -- the act that comes next met a full history
@@ -67,5 +67,5 @@ ticks_full more others w low high m first old new count made place within entrie
   legal,
 )
 
-pub ticks_next : MadeMore → MadeAdded → (low high : ℕ) → IsMeasurer low high → (first old new : List Entry) (made : ℕ) → HasMade first old (replicate made Tick) → Adds low high old new (entry_by low Tick) → HasMade first new (replicate (made + 1) Tick)
+pub ticks_next : MadeMore → MadeAdded → (low high : ℕ) → IsMeasurer low high → (first old new : List Entry) (made : ℕ) → HasMade first old (replicate made Tick) → AddsEntry low high old new (entry_by low Tick) → HasMade first new (replicate (made + 1) Tick)
 ticks_next more added low high m first old new made entries h = subst (HasMade first new) (replicate_more made Tick) (made_next more added low high m first old new (replicate made Tick) Tick entries h)

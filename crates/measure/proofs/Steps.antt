@@ -6,6 +6,7 @@ use Rattle.history.specs.declared.events.Discipline.{Discipline}
 use Rattle.history.specs.declared.events.Act.{Act}
 use Rattle.history.specs.declared.events.Act.TheVariants.{Start, Copy, End, Tick, Release}
 use Rattle.history.specs.declared.events.Entry.{Entry}
+use Rattle.history.specs.Attested.{total}
 use Rattle.history.specs.Layout.{Setting}
 use Rattle.history.specs.Memory.{own, block_bytes, memory_after}
 use Rattle.history.specs.Pass.{Pass, longer, pass_after, pass_step, start_of}
@@ -14,7 +15,7 @@ use Rattle.history.specs.Copied.{copied_bytes, copied_step}
 use Rattle.history.specs.Instants.{ReleasesAt}
 use Rattle.challenge.specs.declared.Challenge.{Challenge}
 use Rattle.chronicle.specs.Laws.{KeepsPass}
-use Rattle.chronicle.specs.Ports.{Adds, OthersFollow, entry_by}
+use Rattle.chronicle.specs.Ports.{AddsEntry, OthersFollow, entry_by}
 use Rattle.measure.specs.Passing.{EndsHere, IsUnderWay, Keeps, ReleasesHere}
 
 abbrev pub OrderStays : Type 0
@@ -105,7 +106,7 @@ record Middle (w : Setting) (old new : List Entry) (entry : Entry) : Type 0 wher
   keeps : Keeps w old middle
   legal : IsLegal w (middle ++ entry ∷ [])
 
-middle_of : OrderStays → PassStays → OwnNone → OneLess → (w : Setting) (old new : List Entry) (entry : Entry) → IsLegal w new → Adds 0 1 old new entry → Middle w old new entry
+middle_of : OrderStays → PassStays → OwnNone → OneLess → (w : Setting) (old new : List Entry) (entry : Entry) → IsLegal w new → AddsEntry 0 1 old new entry → Middle w old new entry
 middle_of order stays none less w old new entry legal a =
     let all = subst (IsLegal w) a.whole legal in
     record {
@@ -115,7 +116,7 @@ middle_of order stays none less w old new entry legal a =
       legal = all;
     }
 
-pub keeps_tick : OrderStays → PassStays → OwnNone → OneLess → PassSteps → BytesStep → (w : Setting) (old new : List Entry) → IsLegal w new → Adds 0 1 old new (entry_by 0 Tick) → Keeps w old new
+pub keeps_tick : OrderStays → PassStays → OwnNone → OneLess → PassSteps → BytesStep → (w : Setting) (old new : List Entry) → IsLegal w new → AddsEntry 0 1 old new (entry_by 0 Tick) → Keeps w old new
 keeps_tick order stays none less steps bytes w old new legal a =
     let m = middle_of order stays none less w old new (entry_by 0 Tick) legal a in
     keeps_join w old m.middle new m.keeps (subst (Keeps w m.middle) (sym m.whole) (tick_last steps bytes w m.middle m.legal))
@@ -135,7 +136,7 @@ start_last steps w middle c =
       released = refl;
     }
 
-pub starts : PassSteps → BytesStep → (w : Setting) (old new : List Entry) (c : Challenge) → Adds 0 1 old new (entry_by 0 (Start c.discipline c.counter)) → IsUnderWay w new c (length new) 0 false × (copied_bytes w (reverse new) ≡ [])
+pub starts : PassSteps → BytesStep → (w : Setting) (old new : List Entry) (c : Challenge) → AddsEntry 0 1 old new (entry_by 0 (Start c.discipline c.counter)) → IsUnderWay w new c (length new) 0 false × (copied_bytes w (reverse new) ≡ [])
 starts steps bytes w old new c a =
     let entry = entry_by 0 (Start c.discipline c.counter) in
     subst (λ l. IsUnderWay w l c (length l) 0 false × (copied_bytes w (reverse l) ≡ [])) (sym a.whole)
@@ -159,7 +160,7 @@ copy_memory : (w : Setting) (middle : List Entry) (block : ℕ) → memory_after
 copy_memory w middle block = ap (memory_after w) (reverse-append middle (entry_by 0 (Copy block) ∷ []))
 
 pub copied_next : OrderStays → PassStays → OwnNone → OneLess → PassSteps → BytesStep → (w : Setting) (old new : List Entry) (c : Challenge) (start copied block : ℕ)
-    → IsLegal w new → Adds 0 1 old new (entry_by 0 (Copy block)) → IsUnderWay w old c start copied false
+    → IsLegal w new → AddsEntry 0 1 old new (entry_by 0 (Copy block)) → IsUnderWay w old c start copied false
     → IsUnderWay w new c start (copied + 1) false × (copied_bytes w (reverse new) ≡ copied_bytes w (reverse old) ++ block_bytes w (memory_after w (reverse new)) block)
 copied_next order stays none less steps bytes w old new c start copied block legal a u =
     let entry = entry_by 0 (Copy block) in
@@ -186,16 +187,16 @@ end_last steps w middle c start copied u = record {
 }
 
 pub ends_here : OrderStays → PassStays → OwnNone → OneLess → PassSteps → (w : Setting) (old new : List Entry) (c : Challenge) (start : ℕ)
-    → IsLegal w new → Adds 0 1 old new (entry_by 0 End) → IsUnderWay w old c start w.attested false → EndsHere w old new c start
+    → IsLegal w new → AddsEntry 0 1 old new (entry_by 0 End) → IsUnderWay w old c start (total w.ranges) false → EndsHere w old new c start
 ends_here order stays none less steps w old new c start legal a u =
     let m = middle_of order stays none less w old new (entry_by 0 End) legal a in
-    let there = m.keeps.under_way c start w.attested false u in
+    let there = m.keeps.under_way c start (total w.ranges) false u in
     record {
       before = m.middle;
       last = m.whole;
       under_way = there;
-      bytes = m.keeps.bytes c start w.attested false u;
-      ended = subst (λ l. IsUnderWay w l c start w.attested true) (sym m.whole) (end_last steps w m.middle c start w.attested there);
+      bytes = m.keeps.bytes c start (total w.ranges) false u;
+      ended = subst (λ l. IsUnderWay w l c start (total w.ranges) true) (sym m.whole) (end_last steps w m.middle c start (total w.ranges) there);
     }
 
 -- the fact on a pass, for the challenge that it answers
@@ -204,10 +205,10 @@ same_releases : (history : List Entry) (c : Challenge) (start place other : ℕ)
 same_releases history c start place other pass d n s p fact = rw (← d, ← n, ← s, ← p) fact
 
 pub releases_here : OrderStays → PassStays → OwnNone → OneLess → ReleasesThere → (w : Setting) (old new : List Entry) (c : Challenge) (start : ℕ)
-    → IsLegal w new → Adds 0 1 old new (entry_by 0 Release) → IsUnderWay w old c start w.attested true → ReleasesHere new c start
+    → IsLegal w new → AddsEntry 0 1 old new (entry_by 0 Release) → IsUnderWay w old c start (total w.ranges) true → ReleasesHere new c start
 releases_here order stays none less releases w old new c start legal a u =
     let m = middle_of order stays none less w old new (entry_by 0 Release) legal a in
-    let there = m.keeps.under_way c start w.attested true u in
+    let there = m.keeps.under_way c start (total w.ranges) true u in
     record {
       before = m.middle;
       last = m.whole;

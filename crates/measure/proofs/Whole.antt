@@ -7,6 +7,7 @@ use Rattle.std.proofs.lemmas.List.Folds.{list_any-append}
 use Rattle.history.specs.declared.events.Act.{Act}
 use Rattle.history.specs.declared.events.Act.TheVariants.{Start, End, Tick}
 use Rattle.history.specs.declared.events.Entry.{Entry}
+use Rattle.history.specs.Attested.{attested_blocks, total}
 use Rattle.history.specs.Layout.{Setting, IsSetting}
 use Rattle.history.specs.Pass.{is_end}
 use Rattle.history.specs.Legal.{IsLegal}
@@ -24,7 +25,7 @@ use Rattle.measure.specs.declared.passing.Attested.{Attested}
 use Rattle.measure.specs.declared.passing.Attested.TheVariants as attested
 use Rattle.measure.specs.Program.{HasMade, IsCut, closing_acts, copies, measuring_program, pass_acts}
 use Rattle.measure.specs.Measured.{IsReportOn}
-use Rattle.measure.specs.Passing.{HasAttested, HasBegun, HasCopied, HasEnded, IsEnded, IsUnderWay, MetFull}
+use Rattle.measure.specs.Passing.{HasAttested, HasBegun, HasCopiedBlocks, HasEnded, IsEnded, IsUnderWay, MetFull}
 use Rattle.measure.proofs.Parts.{MadeMore, cut_within}
 
 -- End isn't among these acts
@@ -35,9 +36,9 @@ none_in_ticks : (count : ℕ) → NoEnd (replicate count Tick)
 none_in_ticks zero = refl
 none_in_ticks (suc count) = none_in_ticks count
 
-none_in_copies : (first count : ℕ) → NoEnd (copies first count)
-none_in_copies first zero = refl
-none_in_copies first (suc count) = none_in_copies (first + 1) count
+none_in_copies : (blocks : List ℕ) → NoEnd (copies blocks)
+none_in_copies [] = refl
+none_in_copies (block ∷ more) = none_in_copies more
 
 or_left : (a b : Bool) → (a || b) ≡ false → a ≡ false
 or_left false b h = refl
@@ -64,49 +65,49 @@ pub begun_full : MadeMore → (w : Setting) (c : Challenge) (old new : List Entr
     → (made : List Act) × IsCut w old new (pass_acts c (shape_of w)) place made × IsLegal w new × NoEnd made
 begun_full more w c old new place none (made, cut, legal) = (
   made,
-  cut_within more w old old new [] (Start c.discipline c.counter ∷ []) (copies w.first w.attested ++ (End ∷ [])) made place none cut,
+  cut_within more w old old new [] (Start c.discipline c.counter ∷ []) (copies (attested_blocks w.ranges) ++ (End ∷ [])) made place none cut,
   legal,
   none_in_cut w old new (Start c.discipline c.counter ∷ []) place made cut refl,
 )
 
 -- a full history at a Copy
-pub copied_full : MadeMore → (w : Setting) (c : Challenge) (old middle new : List Entry) (place : ℕ) → HasMade old middle (Start c.discipline c.counter ∷ []) → MetFull w middle new (copies w.first w.attested) place
+pub copied_full : MadeMore → (w : Setting) (c : Challenge) (old middle new : List Entry) (place : ℕ) → HasMade old middle (Start c.discipline c.counter ∷ []) → MetFull w middle new (copies (attested_blocks w.ranges)) place
     → (made : List Act) × IsCut w old new (pass_acts c (shape_of w)) place made × IsLegal w new × NoEnd made
 copied_full more w c old middle new place entries (made, cut, legal) = (
   Start c.discipline c.counter ∷ made,
-  cut_within more w old middle new (Start c.discipline c.counter ∷ []) (copies w.first w.attested) (End ∷ []) made place entries cut,
+  cut_within more w old middle new (Start c.discipline c.counter ∷ []) (copies (attested_blocks w.ranges)) (End ∷ []) made place entries cut,
   legal,
-  none_in_cut w middle new (copies w.first w.attested) place made cut (none_in_copies w.first w.attested),
+  none_in_cut w middle new (copies (attested_blocks w.ranges)) place made cut (none_in_copies (attested_blocks w.ranges)),
 )
 
 -- End was made, or met a full history
-ended_of : MadeMore → (key : List ℕ) (w : Setting) (c : Challenge) (old middle new : List Entry) (q : Passing) → HasMade old middle (Start c.discipline c.counter ∷ copies w.first w.attested)
+ended_of : MadeMore → (key : List ℕ) (w : Setting) (c : Challenge) (old middle new : List Entry) (q : Passing) → HasMade old middle (Start c.discipline c.counter ∷ copies (attested_blocks w.ranges))
     → q.challenge ≡ c → length old < q.start → (result : Attested) → IsEnded key w q middle new result → HasAttested key w c old new result
 ended_of more key w c old middle new q entries is begins (attested.Ended report) e = (
-  more old middle new (Start c.discipline c.counter ∷ copies w.first w.attested) (End ∷ []) entries e.0,
+  more old middle new (Start c.discipline c.counter ∷ copies (attested_blocks w.ranges)) (End ∷ []) entries e.0,
   e.1,
   rw e.2 begins,
   subst (λ d. HasEnded key w d new report) is e.3,
-  subst (λ d. IsUnderWay w new d report.start w.attested true) is (subst (λ s. IsUnderWay w new q.challenge s w.attested true) (sym e.2) e.4),
+  subst (λ d. IsUnderWay w new d report.start (total w.ranges) true) is (subst (λ s. IsUnderWay w new q.challenge s (total w.ranges) true) (sym e.2) e.4),
 )
 ended_of more key w c old middle new q entries is begins (attested.Full place) (made, cut, legal) =
-    let before = Start c.discipline c.counter ∷ copies w.first w.attested in
+    let before = Start c.discipline c.counter ∷ copies (attested_blocks w.ranges) in
     let none : made ≡ [] = none_of_one End made cut.next cut.missed cut.whole in (
       before ++ made,
       subst (λ l. IsCut w old new l place (before ++ made)) (append-nil (before ++ (End ∷ []))) (cut_within more w old middle new before (End ∷ []) [] made place entries cut),
       legal,
-      ap (λ l. list_any is_end (before ++ l)) none ∙ ap (list_any is_end) (append-nil before) ∙ none_in_copies w.first w.attested,
+      ap (λ l. list_any is_end (before ++ l)) none ∙ ap (list_any is_end) (append-nil before) ∙ none_in_copies (attested_blocks w.ranges),
     )
 
 pub attested_of : MadeMore → (key : List ℕ) (w : Setting) (c : Challenge) (old first middle new : List Entry) (p q : Passing) → HasBegun key w c old first (begun.Made p)
-    → HasCopied w first middle p q (copies w.first w.attested) w.attested part.Made → (result : Attested)
+    → HasCopiedBlocks w first middle p q (copies (attested_blocks w.ranges)) (total w.ranges) part.Made → (result : Attested)
     → ((k : List ℕ) → StandsFor q.hmac k (head_bytes (asked_by q.challenge) q.shape ++ copied_bytes w (reverse middle)) → IsEnded k w q middle new result)
     → HasAttested key w c old new result
 attested_of more key w c old first middle new p q begun copied result ended =
     let same : q.challenge ≡ c = ap (λ (x : Passing). x.challenge) copied.2 ∙ begun.3 in
     let begins : length old < q.start = rw (ap (λ (x : Passing). x.start) copied.2) begun.2 in
     let stands = copied.4 key (head_bytes (asked_by c) (shape_of w)) begun.5 in
-    ended_of more key w c old middle new q (more old first middle (Start c.discipline c.counter ∷ []) (copies w.first w.attested) begun.0 copied.0) same begins result
+    ended_of more key w c old middle new q (more old first middle (Start c.discipline c.counter ∷ []) (copies (attested_blocks w.ranges)) begun.0 copied.0) same begins result
     (ended key (rw (same, copied.3.0) stands))
 
 -- a full history while leading
@@ -174,7 +175,7 @@ close_full more stands later key w c old begun middle new r place v led a (made,
       subst (λ l. IsCut w old new l place (before ++ made)) (append-nil (before ++ closing_acts c))
           (cut_within more w old middle new before (closing_acts c) [] made place (more old begun middle (replicate c.lead Tick) (pass_acts c (shape_of w)) led a.0) cut),
       (
-        any_before before made (any_after (replicate c.lead Tick) (pass_acts c (shape_of w)) (any_after (Start c.discipline c.counter ∷ copies w.first w.attested) (End ∷ []) refl)),
+        any_before before made (any_after (replicate c.lead Tick) (pass_acts c (shape_of w)) (any_after (Start c.discipline c.counter ∷ copies (attested_blocks w.ranges)) (End ∷ []) refl)),
         reported stands later key w c old begun middle new r made v led a cut.entries legal,
       ),
     )

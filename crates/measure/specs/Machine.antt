@@ -1,7 +1,8 @@
 -- The measurer's program as it is made: what is left of it, and the places that are known.
-use Rattle.std.specs.Prelude.{ℕ, ◌+◌, ◌-◌, ◌<◌, ◌≤◌, ◌^◌, Bool, true, false, if◌then◌else◌, List, [], ◌∷◌, ◌++◌, drop, replicate}
+use Rattle.std.specs.Prelude.{ℕ, ◌≤◌, Bool, true, false, if◌then◌else◌, List, [], ◌∷◌, ◌++◌, drop, replicate}
 use Rattle.history.specs.declared.events.Act.{Act}
 use Rattle.history.specs.declared.events.Act.TheVariants as act
+use Rattle.history.specs.Attested.{attested_blocks, total}
 use Rattle.challenge.specs.declared.Challenge.{Challenge}
 use Rattle.chronicle.specs.declared.worlds.Shape.{Shape}
 use Rattle.measure.specs.declared.machine.PassWant.{PassWant}
@@ -21,14 +22,14 @@ abbrev pub new_machine : Challenge → Shape → Machine
 new_machine c shape = record { left = measuring_program c shape; start = 0; end = 0 }
 
 -- the first act that is left
-abbrev pub want_of : List Act → PassWant
-want_of [] = want.Over
-want_of (act.Tick ∷ left) = want.Tick
-want_of (act.Start discipline counter ∷ left) = want.Start
-want_of (act.Copy block ∷ left) = want.Copy block
-want_of (act.End ∷ left) = want.End
-want_of (act.Release ∷ left) = want.Release
-want_of (other ∷ left) = want.Over
+abbrev pub first_want : List Act → PassWant
+first_want [] = want.Over
+first_want (act.Tick ∷ left) = want.Tick
+first_want (act.Start discipline counter ∷ left) = want.Start
+first_want (act.Copy block ∷ left) = want.Copy block
+first_want (act.End ∷ left) = want.End
+first_want (act.Release ∷ left) = want.Release
+first_want (other ∷ left) = want.Over
 
 -- Start comes next; End comes next
 abbrev pub is_at_start : List Act → Bool
@@ -48,13 +49,13 @@ told_machine m place = record {
 }
 
 -- what is left at a stage
-abbrev pub left_of : Challenge → Shape → Stage → List Act
-left_of c shape (Leading left) = replicate left act.Tick ++ pass_acts c shape ++ closing_acts c
-left_of c shape (Copying made) = copies (shape.first + made) (shape.attested - made) ++ (act.End ∷ []) ++ closing_acts c
-left_of c shape (Holding left) = replicate left act.Tick ++ (act.Release ∷ [])
-left_of c shape Over = []
+abbrev pub acts_left : Challenge → Shape → Stage → List Act
+acts_left c shape (Leading left) = replicate left act.Tick ++ pass_acts c shape ++ closing_acts c
+acts_left c shape (Copying made) = copies (drop made (attested_blocks shape.ranges)) ++ (act.End ∷ []) ++ closing_acts c
+acts_left c shape (Holding left) = replicate left act.Tick ++ (act.Release ∷ [])
+acts_left c shape Over = []
 
--- no more blocks are copied than are attested, and each has a number of 32 bits
-abbrev pub IsWithin : Shape → Stage → Type 0
-IsWithin shape (Copying made) = (made ≤ shape.attested) × (shape.first + shape.attested < 2 ^ 32)
-IsWithin shape other = shape.first + shape.attested < 2 ^ 32
+-- no more blocks are copied than are attested
+abbrev pub FitsShape : Shape → Stage → Type 0
+FitsShape shape (Copying made) = made ≤ total shape.ranges
+FitsShape shape other = Unit {0}

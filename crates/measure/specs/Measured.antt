@@ -5,7 +5,7 @@ use Rattle.history.specs.declared.events.Act.{Act}
 use Rattle.history.specs.declared.events.Act.TheVariants.{Release}
 use Rattle.history.specs.declared.events.Entry.{Entry}
 use Rattle.history.specs.Layout.{Setting}
-use Rattle.history.specs.Memory.{memory_at, attested_bytes}
+use Rattle.history.specs.Memory.{back, memory_at, attested_bytes}
 use Rattle.history.specs.Pass.{is_end, is_extended}
 use Rattle.history.specs.Instants.{IsInstant, EndsAt, ReleasesAt}
 use Rattle.challenge.specs.declared.Challenge.{Challenge}
@@ -32,22 +32,21 @@ pub record IsReportOn (key : List ℕ) (w : Setting) (c : Challenge) (old histor
       → IsInstant c.discipline r.start r.end release place
       → r.tag ≡ report_tag key (asked_by c) r.shape (attested_bytes w (memory_at w history place)) r.start r.end
 
--- The note is on the report's pass, whose Release is the last entry of the history, and its tag binds the place of
--- that Release to the report's tag.
+-- The note is on the report's pass: the entry at the note's place is the pass's Release, and the note's tag binds that
+-- place to the report's tag.
 pub record IsNoteOn (key : List ℕ) (c : Challenge) (history : List Entry) (r : Report) (n : Note) : Type 0 where
   pub counter : n.counter ≡ r.counter
   pub start : n.start ≡ r.start
   pub end : n.end ≡ r.end
-  pub place : n.release ≡ length history
-  pub before : List Entry
-  pub last : history ≡ before ++ entry_by 0 Release ∷ []
+  pub past : List Entry
+  pub here : back history n.release ≡ entry_by 0 Release ∷ past
   pub releases : ReleasesAt history c.discipline c.counter r.start n.release
   pub tag : n.tag ≡ note_tag key n.counter n.start n.end n.release r.tag
 
--- there is a note exactly in an extended discipline
+-- there is a note exactly in an extended discipline, and its Release is the last entry
 abbrev pub HasNote : List ℕ → Challenge → List Entry → Report → Option Note → Type 0
 HasNote key c history r None = is_extended c.discipline ≡ false
-HasNote key c history r (Some note) = IsTrue (is_extended c.discipline) × IsNoteOn key c history r note
+HasNote key c history r (Some note) = IsTrue (is_extended c.discipline) × IsNoteOn key c history r note × (note.release ≡ length history)
 
 -- there is a report exactly where End's entry was made
 abbrev pub HasReport : List ℕ → Setting → Challenge → List Entry → List Entry → List Act → Option Report → Type 0

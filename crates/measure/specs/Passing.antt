@@ -5,6 +5,7 @@ use Rattle.history.specs.declared.events.Discipline.{Discipline}
 use Rattle.history.specs.declared.events.Act.{Act}
 use Rattle.history.specs.declared.events.Act.TheVariants.{Start, End, Release}
 use Rattle.history.specs.declared.events.Entry.{Entry}
+use Rattle.history.specs.Attested.{total}
 use Rattle.history.specs.Layout.{Setting}
 use Rattle.history.specs.Pass.{Pass, pass_after, start_of, copied_of, is_end, is_ended, is_extended, is_released}
 use Rattle.history.specs.Legal.{IsLegal, in_order}
@@ -73,18 +74,18 @@ HasBegun key w c old new (begun.Made passing) =
 HasBegun key w c old new (begun.Full place) = MetFull w old new (Start c.discipline c.counter ∷ []) place
 
 -- The blocks were copied and digested, so that there are now so many copies; or the copies met a full history.
-abbrev pub HasCopied : Setting → List Entry → List Entry → Passing → Passing → List Act → ℕ → Part → Type 0
-HasCopied w old new before after acts copied part.Made =
+abbrev pub HasCopiedBlocks : Setting → List Entry → List Entry → Passing → Passing → List Act → ℕ → Part → Type 0
+HasCopiedBlocks w old new before after acts copied part.Made =
     HasMade old new acts × IsLegal w new × (after ≡ record before { hmac = after.hmac }) × IsPassing w new copied after × Digests w old new before.hmac after.hmac
-HasCopied w old new before after acts copied (part.Full place) = MetFull w old new acts place
+HasCopiedBlocks w old new before after acts copied (part.Full place) = MetFull w old new acts place
 
 -- the last entry is End, and the pass before it has copied every attested block
 pub record EndsHere (w : Setting) (old new : List Entry) (c : Challenge) (start : ℕ) : Type 0 where
   pub before : List Entry
   pub last : new ≡ before ++ entry_by 0 End ∷ []
-  pub under_way : IsUnderWay w before c start w.attested false
+  pub under_way : IsUnderWay w before c start (total w.ranges) false
   pub bytes : copied_bytes w (reverse before) ≡ copied_bytes w (reverse old)
-  pub ended : IsUnderWay w new c start w.attested true
+  pub ended : IsUnderWay w new c start (total w.ranges) true
 
 -- the last entry is the pass's Release
 pub record ReleasesHere (new : List Entry) (c : Challenge) (start : ℕ) : Type 0 where
@@ -102,24 +103,24 @@ pub record HasEnded (key : List ℕ) (w : Setting) (c : Challenge) (seen : List 
   pub more : List Entry
   pub whole : seen ≡ before ++ entry_by 0 End ∷ more
   pub here : r.end ≡ length before + 1
-  pub under_way : IsUnderWay w before c r.start w.attested false
+  pub under_way : IsUnderWay w before c r.start (total w.ranges) false
   pub tag : r.tag ≡ report_tag key (asked_by c) r.shape (copied_bytes w (reverse before)) r.start r.end
 
 -- End was made, and here is the report; or it met a full history
 abbrev pub IsEnded : List ℕ → Setting → Passing → List Entry → List Entry → Attested → Type 0
 IsEnded key w p old new (attested.Ended report) =
-    HasMade old new (End ∷ []) × IsLegal w new × (report.start ≡ p.start) × HasEnded key w p.challenge new report × IsUnderWay w new p.challenge p.start w.attested true
+    HasMade old new (End ∷ []) × IsLegal w new × (report.start ≡ p.start) × HasEnded key w p.challenge new report × IsUnderWay w new p.challenge p.start (total w.ranges) true
 IsEnded key w p old new (attested.Full place) = MetFull w old new (End ∷ []) place
 
 -- the pass was made from Start to End, and here is the report; or it met a full history before End
 abbrev pub HasAttested : List ℕ → Setting → Challenge → List Entry → List Entry → Attested → Type 0
 HasAttested key w c old new (attested.Ended report) =
-    HasMade old new (pass_acts c (shape_of w)) × IsLegal w new × (length old < report.start) × HasEnded key w c new report × IsUnderWay w new c report.start w.attested true
+    HasMade old new (pass_acts c (shape_of w)) × IsLegal w new × (length old < report.start) × HasEnded key w c new report × IsUnderWay w new c report.start (total w.ranges) true
 HasAttested key w c old new (attested.Full place) =
     (made : List Act) × IsCut w old new (pass_acts c (shape_of w)) place made × IsLegal w new × (list_any is_end made ≡ false)
 
 -- what comes after End was made, with this note where the discipline is extended; or it met a full history
 abbrev pub HasClosed : List ℕ → Setting → Challenge → Report → List Entry → List Entry → Closed → Type 0
 HasClosed key w c r old new closed.Over = HasMade old new (closing_acts c) × IsLegal w new × (is_extended c.discipline ≡ false)
-HasClosed key w c r old new (closed.Released note) = HasMade old new (closing_acts c) × IsLegal w new × IsTrue (is_extended c.discipline) × IsNoteOn key c new r note
+HasClosed key w c r old new (closed.Released note) = HasMade old new (closing_acts c) × IsLegal w new × IsTrue (is_extended c.discipline) × IsNoteOn key c new r note × (note.release ≡ length new)
 HasClosed key w c r old new (closed.Full place) = MetFull w old new (closing_acts c) place

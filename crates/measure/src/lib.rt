@@ -10,15 +10,18 @@
 //! ```
 #![tactic(auto)]
 
+mod hashing;
 mod laws;
 mod machine;
 mod measured;
 mod measuring;
 mod passing;
+mod standing;
 
 pub use machine::{PassMachine, PassWant};
 pub use measured::Measured;
 pub use measuring::measure;
+pub use standing::{measured_stays, programs_stay_in_order};
 
 #[cfg(test)]
 mod busy;

@@ -1,9 +1,9 @@
 //! The measurer's program as a machine: it says what comes next, and is told the place of each entry made.
 
-ghost use Rattle.std.specs.Prelude.{◌≡◌, ◌+◌, ◌^◌, ◌<◌};
+ghost use Rattle.std.specs.Prelude.{◌≡◌};
 ghost use Rattle.chronicle.specs.declared.worlds.Shape.{Shape};
 ghost use Rattle.measure.specs.Program.{closing_acts};
-ghost use Rattle.measure.specs.Machine.{IsWithin, left_of};
+ghost use Rattle.measure.specs.Machine.{FitsShape, acts_left};
 
 use challenge::Challenge;
 use chronicle::Shape;
@@ -51,8 +51,8 @@ pub struct PassMachine {
 
 // The stage once End is made.
 fn after_end(challenge: &Challenge) -> Stage
-    ensures left { (shape : Shape) → left_of challenge.now shape result ≡ closing_acts challenge.now }
-    ensures within { (shape : Shape) → shape.first + shape.attested < 2 ^ 32 → IsWithin shape result }
+    ensures left { (shape : Shape) → acts_left challenge.now shape result ≡ closing_acts challenge.now }
+    ensures within { (shape : Shape) → FitsShape shape result }
 {
     if challenge.discipline.extended() {
         return Stage::Holding {
@@ -63,25 +63,23 @@ fn after_end(challenge: &Challenge) -> Stage
 }
 
 impl Model for PassMachine {
-    ghost use Rattle.measure.specs.Machine.{Machine, IsWithin, left_of};
+    ghost use Rattle.measure.specs.Machine.{Machine, FitsShape, acts_left};
 
     ghost Value = { Machine };
 
-    ghost view = { λ m. record { left = left_of m.challenge m.shape m.stage; start = m.start; end = m.end } };
+    ghost view = { λ m. record { left = acts_left m.challenge m.shape m.stage; start = m.start; end = m.end } };
 
-    ghost invariant = { λ m. IsWithin m.shape m.stage };
+    ghost invariant = { λ m. FitsShape m.shape m.stage };
 }
 
 impl PassMachine {
-    ghost use Rattle.std.specs.Prelude.{◌≡◌, ◌↔◌, ◌+◌, ◌^◌, ◌<◌, IsTrue, length};
+    ghost use Rattle.std.specs.Prelude.{◌≡◌, ◌↔◌, ◌<◌, IsTrue, length};
     ghost use Rattle.challenge.specs.Challenges.{IsChallenge};
-    ghost use Rattle.measure.specs.Machine.{new_machine, told_machine, want_of};
+    ghost use Rattle.measure.specs.Machine.{new_machine, told_machine, first_want};
 
-    /// The machine before its first step. The challenge has to be valid, and the attested blocks have to have
-    /// numbers of 32 bits.
+    /// The machine before its first step. The challenge has to be valid.
     pub fn new(challenge: &Challenge, shape: &Shape) -> PassMachine
-        requires valid { IsChallenge challenge.now }
-        requires blocks { shape.now.first + shape.now.attested < 2 ^ 32 }
+        requires { IsChallenge challenge.now }
         ensures { result ≡ new_machine challenge.now shape.now }
     {
         PassMachine {
@@ -97,13 +95,13 @@ impl PassMachine {
 
     /// What comes next.
     pub fn want(&self) -> PassWant
-        ensures { result ≡ want_of self.now.left }
+        ensures { result ≡ first_want self.now.left }
     {
         match self.stage {
             Stage::Leading { left: 0 } => PassWant::Start,
             Stage::Leading { .. } => PassWant::Tick,
-            Stage::Copying { made } if made < self.shape.attested => {
-                PassWant::Copy(self.shape.first + made)
+            Stage::Copying { made } if made < self.shape.ranges.total() => {
+                PassWant::Copy(self.shape.ranges.block(made))
             }
             Stage::Copying { .. } => PassWant::End,
             Stage::Holding { left: 0 } => PassWant::Release,
@@ -147,7 +145,7 @@ impl PassMachine {
                 self.stage = Stage::Copying { made: 0 };
             }
             Stage::Leading { left } => self.stage = Stage::Leading { left: left - 1 },
-            Stage::Copying { made } if made < self.shape.attested => {
+            Stage::Copying { made } if made < self.shape.ranges.total() => {
                 self.stage = Stage::Copying { made: made + 1 };
             }
             Stage::Copying { .. } => {

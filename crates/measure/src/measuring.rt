@@ -7,7 +7,7 @@ ghost use Rattle.history.specs.Layout.{IsSetting};
 ghost use Rattle.history.specs.Legal.{IsLegal, in_order};
 ghost use Rattle.challenge.specs.Challenges.{IsChallenge};
 ghost use Rattle.chronicle.specs.Worlds.{shape_of};
-ghost use Rattle.chronicle.specs.Ports.{IsMeasurer};
+ghost use Rattle.chronicle.specs.Ports.{IsMeasurer, KeepsPort};
 ghost use Rattle.measure.specs.Measured.{HasMeasured};
 ghost use Rattle.measure.specs.Passing.{HasAttested};
 
@@ -35,10 +35,8 @@ fn attest<P: BlockPort, G: Gate>(
     requires room { length buffer.old ≡ (P.world port.old).layout.size }
     requires order { IsTrue (in_order (P.world port.old) (pass_after (reverse (P.seen port.old)))
         (act.Start challenge.now.discipline challenge.now.counter)) }
-    ensures owner { P.owner port.new ≡ P.owner port.old }
-    ensures world { P.world port.new ≡ P.world port.old }
-    ensures low { P.low port.new ≡ P.low port.old }
-    ensures high { P.high port.new ≡ P.high port.old }
+    ensures port { KeepsPort (P.owner port.old) (P.owner port.new) (P.world port.old) (P.world port.new)
+        (P.low port.old) (P.low port.new) (P.high port.old) (P.high port.new) }
     ensures attested { HasAttested key.now (P.world port.old) challenge.now (P.seen port.old) (P.seen port.new) result }
 {
     laws::answers_make();
@@ -74,10 +72,8 @@ pub fn measure<P: BlockPort, G: Gate>(
     requires order { IsTrue (in_order (P.world port.old) (pass_after (reverse (P.seen port.old)))
         (act.Start challenge.now.discipline challenge.now.counter)) }
     requires room { length buffer.old ≡ (P.world port.old).layout.size }
-    ensures owner { P.owner port.new ≡ P.owner port.old }
-    ensures world { P.world port.new ≡ P.world port.old }
-    ensures low { P.low port.new ≡ P.low port.old }
-    ensures high { P.high port.new ≡ P.high port.old }
+    ensures port { KeepsPort (P.owner port.old) (P.owner port.new) (P.world port.old) (P.world port.new)
+        (P.low port.old) (P.low port.new) (P.high port.old) (P.high port.new) }
     ensures setting { IsSetting (P.world port.new) }
     ensures legal { IsLegal (P.world port.new) (P.seen port.new) }
     ensures measured { HasMeasured key.now (P.world port.old) challenge.now (P.seen port.old) (P.seen port.new) result }

@@ -2,6 +2,7 @@
 
 ghost use Rattle.std.specs.Prelude.{◌≡◌, ℕ, ◌+◌, ◌<◌, true, IsTrue, List, [], ◌∷◌, ◌++◌, length, reverse, replicate};
 ghost use Rattle.history.specs.declared.events.Act.TheVariants as act;
+ghost use Rattle.history.specs.Attested.{attested_block, attested_blocks, total};
 ghost use Rattle.history.specs.Layout.{IsSetting};
 ghost use Rattle.history.specs.Pass.{pass_after};
 ghost use Rattle.history.specs.Legal.{IsLegal, in_order};
@@ -9,20 +10,19 @@ ghost use Rattle.history.specs.Copied.{copied_bytes};
 ghost use Rattle.hmac256.specs.States.{StandsFor};
 ghost use Rattle.challenge.specs.Challenges.{asked_by};
 ghost use Rattle.chronicle.specs.Worlds.{shape_of};
-ghost use Rattle.chronicle.specs.Ports.{IsMeasurer};
+ghost use Rattle.chronicle.specs.Ports.{IsMeasurer, KeepsPort};
 ghost use Rattle.report.specs.Tags.{head_bytes};
 ghost use Rattle.measure.specs.Program.{copies};
-ghost use Rattle.measure.specs.Passing.{HasBegun, HasClosed, HasCopied, HasTicked, IsEnded, IsPassing, IsUnderWay};
+ghost use Rattle.measure.specs.Passing.{HasBegun, HasClosed, HasCopiedBlocks, HasTicked, IsEnded, IsPassing, IsUnderWay};
 
+use crate::hashing::{MEASURER, hash_block};
 use crate::laws;
-use att_base::{Gate, Kind, Spot};
+use att_base::{Gate, MADE_COPY, MADE_END, MADE_RELEASE, MADE_START, MADE_TICK, Spot};
 use challenge::Challenge;
 use chronicle::{BlockPort, Shape, Step};
+use history::blocks_in_order;
 use hmac256::Hmac;
 use report::{Note, Report, head, note_on, tail};
-
-/// The measurer, as gates and entries number actors.
-const MEASURER: u32 = 0;
 
 /// How a part of the program went.
 #[derive(Clone, Copy, Debug, PartialEq, Eq)]
@@ -67,24 +67,22 @@ pub enum Closed {
     Full { place: u64 },
 }
 
-fn made(kind: Kind, place: u64) -> Spot {
+fn made(kind: u32, place: u64) -> Spot {
     Spot::Made { kind, place }
 }
 
 /// Lets time go by, so many Ticks.
 pub fn tick_for<P: BlockPort, G: Gate>(port: &mut P, count: u32, gate: &G) -> Part
     requires actor { IsMeasurer (P.low port.old) (P.high port.old) }
-    ensures owner { P.owner port.new ≡ P.owner port.old }
-    ensures world { P.world port.new ≡ P.world port.old }
-    ensures low { P.low port.new ≡ P.low port.old }
-    ensures high { P.high port.new ≡ P.high port.old }
+    ensures port { KeepsPort (P.owner port.old) (P.owner port.new) (P.world port.old) (P.world port.new)
+        (P.low port.old) (P.low port.new) (P.high port.old) (P.high port.new) }
     ensures ticked { HasTicked (P.world port.old) (P.seen port.old) (P.seen port.new) (replicate count act.Tick) result }
 {
     laws::answers_make();
     laws::answers_keep();
     'ticking: for _ in 0..count {
         match port.tick() {
-            Step::Done { place } => gate.at(MEASURER, made(Kind::Tick, place)),
+            Step::Done { place } => gate.at(MEASURER, made(MADE_TICK, place)),
             Step::Full { place } => return Part::Full { place },
         }
     }
@@ -103,10 +101,8 @@ pub fn begin<P: BlockPort, G: Gate>(
     requires shape { shape.now ≡ shape_of (P.world port.old) }
     requires order { IsTrue (in_order (P.world port.old) (pass_after (reverse (P.seen port.old)))
         (act.Start challenge.now.discipline challenge.now.counter)) }
-    ensures owner { P.owner port.new ≡ P.owner port.old }
-    ensures world { P.world port.new ≡ P.world port.old }
-    ensures low { P.low port.new ≡ P.low port.old }
-    ensures high { P.high port.new ≡ P.high port.old }
+    ensures port { KeepsPort (P.owner port.old) (P.owner port.new) (P.world port.old) (P.world port.new)
+        (P.low port.old) (P.low port.new) (P.high port.old) (P.high port.new) }
     ensures begun { HasBegun key.now (P.world port.old) challenge.now (P.seen port.old) (P.seen port.new) result }
 {
     laws::answers_make();
@@ -115,9 +111,9 @@ pub fn begin<P: BlockPort, G: Gate>(
         Step::Done { place } => place,
         Step::Full { place } => return Begun::Full { place },
     };
-    gate.at(MEASURER, made(Kind::Start, start));
+    gate.at(MEASURER, made(MADE_START, start));
     let mut hmac = Hmac::new(key);
-    hmac.update(&head(challenge, shape));
+    hmac.update(head(challenge, shape).as_slice());
     Begun::Made {
         passing: Passing {
             challenge: *challenge,
@@ -138,30 +134,27 @@ fn copy_block<P: BlockPort, G: Gate>(
 ) -> Part
     requires actor { IsMeasurer (P.low port.old) (P.high port.old) }
     requires passing { IsPassing (P.world port.old) (P.seen port.old) index passing.old }
-    requires index { index < (P.world port.old).attested }
+    requires index { index < total (P.world port.old).ranges }
     requires setting { IsSetting (P.world port.old) }
     requires room { length buffer.old ≡ (P.world port.old).layout.size }
-    ensures owner { P.owner port.new ≡ P.owner port.old }
-    ensures world { P.world port.new ≡ P.world port.old }
-    ensures low { P.low port.new ≡ P.low port.old }
-    ensures high { P.high port.new ≡ P.high port.old }
+    ensures port { KeepsPort (P.owner port.old) (P.owner port.new) (P.world port.old) (P.world port.new)
+        (P.low port.old) (P.low port.new) (P.high port.old) (P.high port.new) }
     ensures room { length buffer.new ≡ length buffer.old }
-    ensures copied { HasCopied (P.world port.old) (P.seen port.old) (P.seen port.new) passing.old passing.new
-        (act.Copy ((P.world port.old).first + index) ∷ []) (index + 1) result }
+    ensures copied { HasCopiedBlocks (P.world port.old) (P.seen port.old) (P.seen port.new) passing.old passing.new
+        (act.Copy (attested_block (P.world port.old).ranges index) ∷ []) (index + 1) result }
 {
     laws::answers_make();
     laws::steps_of_a_pass();
-    let block = passing.shape.first + index;
+    let block = passing.shape.ranges.block(index);
     match port.copy(block, buffer) {
-        Step::Done { place } => gate.at(MEASURER, made(Kind::Copy, place)),
+        Step::Done { place } => gate.at(MEASURER, made(MADE_COPY, place)),
         Step::Full { place } => return Part::Full { place },
     }
-    gate.at(MEASURER, Spot::Hashing { block });
-    passing.hmac.update(buffer);
+    hash_block(&mut passing.hmac, block, buffer, gate);
     Part::Made
 }
 
-/// Copies each attested block by rising address, and takes it into the digest.
+/// Copies each attested block in ascending order, and takes it into the digest.
 pub fn copy_blocks<P: BlockPort, G: Gate>(
     port: &mut P,
     passing: &mut Passing,
@@ -173,15 +166,14 @@ pub fn copy_blocks<P: BlockPort, G: Gate>(
     requires setting { IsSetting (P.world port.old) }
     requires legal { IsLegal (P.world port.old) (P.seen port.old) }
     requires room { length buffer.old ≡ (P.world port.old).layout.size }
-    ensures owner { P.owner port.new ≡ P.owner port.old }
-    ensures world { P.world port.new ≡ P.world port.old }
-    ensures low { P.low port.new ≡ P.low port.old }
-    ensures high { P.high port.new ≡ P.high port.old }
-    ensures copied { HasCopied (P.world port.old) (P.seen port.old) (P.seen port.new) passing.old passing.new
-        (copies (P.world port.old).first (P.world port.old).attested) (P.world port.old).attested result }
+    ensures port { KeepsPort (P.owner port.old) (P.owner port.new) (P.world port.old) (P.world port.new)
+        (P.low port.old) (P.low port.new) (P.high port.old) (P.high port.new) }
+    ensures copied { HasCopiedBlocks (P.world port.old) (P.seen port.old) (P.seen port.new) passing.old passing.new
+        (copies (attested_blocks (P.world port.old).ranges)) (total (P.world port.old).ranges) result }
 {
     laws::answers_make();
-    'copying: for index in 0..passing.shape.attested {
+    blocks_in_order();
+    'copying: for index in 0..passing.shape.ranges.total() {
         match copy_block(port, passing, index, buffer, gate) {
             Part::Made => {}
             Part::Full { place } => return Part::Full { place },
@@ -193,11 +185,9 @@ pub fn copy_blocks<P: BlockPort, G: Gate>(
 /// Ends the pass, and reports on it.
 pub fn end_pass<P: BlockPort, G: Gate>(port: &mut P, passing: Passing, gate: &G) -> Attested
     requires actor { IsMeasurer (P.low port.old) (P.high port.old) }
-    requires passing { IsPassing (P.world port.old) (P.seen port.old) (P.world port.old).attested passing }
-    ensures owner { P.owner port.new ≡ P.owner port.old }
-    ensures world { P.world port.new ≡ P.world port.old }
-    ensures low { P.low port.new ≡ P.low port.old }
-    ensures high { P.high port.new ≡ P.high port.old }
+    requires passing { IsPassing (P.world port.old) (P.seen port.old) (total (P.world port.old).ranges) passing }
+    ensures port { KeepsPort (P.owner port.old) (P.owner port.new) (P.world port.old) (P.world port.new)
+        (P.low port.old) (P.low port.new) (P.high port.old) (P.high port.new) }
     ensures ended { (key : List ℕ)
         → StandsFor passing.hmac key (head_bytes (asked_by passing.challenge) passing.shape ++ copied_bytes (P.world port.old) (reverse (P.seen port.old)))
         → IsEnded key (P.world port.old) passing (P.seen port.old) (P.seen port.new) result }
@@ -208,7 +198,7 @@ pub fn end_pass<P: BlockPort, G: Gate>(port: &mut P, passing: Passing, gate: &G)
         Step::Done { place } => place,
         Step::Full { place } => return Attested::Full { place },
     };
-    gate.at(MEASURER, made(Kind::End, end));
+    gate.at(MEASURER, made(MADE_END, end));
     let Passing {
         challenge,
         shape,
@@ -240,11 +230,9 @@ pub fn close<P: BlockPort, G: Gate>(
 ) -> Closed
     requires actor { IsMeasurer (P.low port.old) (P.high port.old) }
     requires legal { IsLegal (P.world port.old) (P.seen port.old) }
-    requires under_way { IsUnderWay (P.world port.old) (P.seen port.old) challenge.now report.now.start (P.world port.old).attested true }
-    ensures owner { P.owner port.new ≡ P.owner port.old }
-    ensures world { P.world port.new ≡ P.world port.old }
-    ensures low { P.low port.new ≡ P.low port.old }
-    ensures high { P.high port.new ≡ P.high port.old }
+    requires under_way { IsUnderWay (P.world port.old) (P.seen port.old) challenge.now report.now.start (total (P.world port.old).ranges) true }
+    ensures port { KeepsPort (P.owner port.old) (P.owner port.new) (P.world port.old) (P.world port.new)
+        (P.low port.old) (P.low port.new) (P.high port.old) (P.high port.new) }
     ensures closed { HasClosed key.now (P.world port.old) challenge.now report.now (P.seen port.old) (P.seen port.new) result }
 {
     laws::answers_make();
@@ -260,7 +248,7 @@ pub fn close<P: BlockPort, G: Gate>(
         Step::Done { place } => place,
         Step::Full { place } => return Closed::Full { place },
     };
-    gate.at(MEASURER, made(Kind::Release, place));
+    gate.at(MEASURER, made(MADE_RELEASE, place));
     Closed::Released {
         note: note_on(key, report, place),
     }

@@ -7,14 +7,16 @@ ghost use Rattle.measure.specs.Measured.{HasMeasured};
 
 use super::*;
 use crate::busy::Busy;
-use att_base::NoGate;
+use crate::hashing::{Taker, hash_block};
+use att_base::{Gate, NoGate, Spot};
 use block_memory::Geometry;
 use challenge::{Challenge, Discipline};
 use chronicle::{Act, Shape, World};
-use lock_plan::PlanStep;
+use lock_plan::{PlanStep, Range, Ranges};
 use mem_core::{Direct, MemCore};
-use report::{Note, Report};
+use report::{Note, Report, write_report};
 use std::alloc::Global;
+use std::cell::{Cell, RefCell};
 use std::process::Abort;
 use std::test::Fail;
 
@@ -29,12 +31,31 @@ fn tag(digits: &str) -> Result<[u8; 32], Fail> {
     Ok(bytes)
 }
 
-// A core over so many blocks of 16 zero bytes from BASE on, all attested.
-fn core_of(rt: &impl Alloc<A = Global>, blocks: u32, cap: u64) -> Result<MemCore, Fail> {
+// So many blocks from the first on.
+fn first_blocks(attested: u32) -> Result<Ranges, Fail> {
+    let all = Range { first: 0, attested };
+    Ok(Ranges::new(&[all]).ok_or("no ranges")?)
+}
+
+// Blocks 1, 2 and 5.
+fn two_ranges() -> Result<Ranges, Fail> {
+    let first = Range {
+        first: 1,
+        attested: 2,
+    };
+    let second = Range {
+        first: 5,
+        attested: 1,
+    };
+    Ok(Ranges::new(&[first, second]).ok_or("no ranges")?)
+}
+
+// A core over 8 blocks of 16 zero bytes from BASE on.
+fn core_of(rt: &impl Alloc<A = Global>, ranges: Ranges, cap: u64) -> Result<MemCore, Fail> {
     let alloc = rt.alloc();
-    let geometry = Geometry::new(BASE, 16, blocks).ok_or("no geometry")?;
-    let image = vec![in alloc; 0u8; geometry.byte_count() as usize]?;
-    let world = World::new(geometry, 0, blocks, image, cap).ok_or("no world")?;
+    let geometry = Geometry::new(BASE, 16, 8).ok_or("no geometry")?;
+    let image = vec![in alloc; 0u8; 128]?;
+    let world = World::new(geometry, ranges, image, cap).ok_or("no world")?;
     Ok(MemCore::new(alloc, world)?)
 }
 
@@ -48,7 +69,7 @@ fn challenge(discipline: Discipline, lead: u32, hold: u32, counter: u64) -> Chal
     }
 }
 
-fn report(challenge: &Challenge, attested: u32, start: u64, end: u64, tag: [u8; 32]) -> Report {
+fn report(challenge: &Challenge, ranges: Ranges, start: u64, end: u64, tag: [u8; 32]) -> Report {
     let nonce = challenge.nonce;
     Report {
         discipline: challenge.discipline,
@@ -57,8 +78,7 @@ fn report(challenge: &Challenge, attested: u32, start: u64, end: u64, tag: [u8; 
         shape: Shape {
             base: BASE,
             size: 16,
-            first: 0,
-            attested,
+            ranges,
         },
         start,
         end,
@@ -68,7 +88,7 @@ fn report(challenge: &Challenge, attested: u32, start: u64, end: u64, tag: [u8; 
 
 /// Measures over the core alone, if the challenge is valid and no pass is open. What the measurement says is then
 /// a fact of the core's own history.
-fn measure_alone(core: &mut MemCore, challenge: &Challenge) -> Option<Measured>
+fn measure_alone<G: Gate>(core: &mut MemCore, challenge: &Challenge, gate: &G) -> Option<Measured>
     ensures measured { IfSome result (λ m. (key : List ℕ) → key ≡ 107 ∷ 101 ∷ 121 ∷ []
         → HasMeasured key core.old.world challenge.now core.old.history core.new.history m) }
 {
@@ -84,7 +104,7 @@ fn measure_alone(core: &mut MemCore, challenge: &Challenge) -> Option<Measured>
         b"key",
         challenge,
         &mut buffer,
-        &NoGate,
+        gate,
     ))
 }
 
@@ -101,17 +121,17 @@ fn measure_busy(core: &mut MemCore, addr: u32, challenge: &Challenge) -> Option<
     Some(measure(&mut port, b"key", challenge, &mut buffer, &NoGate))
 }
 
-// The measurer's acts, in order, in one letter each.
-fn letters(core: MemCore) -> [u8; 16] {
+// The acts in order, a Copy by its block, others by a letter.
+fn letters(core: MemCore) -> [u8; 12] {
     let kept = core.into_chronicle();
-    let mut letters = [b'.'; 16];
+    let mut letters = [b'.'; 12];
     for (letter, entry) in letters.iter_mut().zip(kept.entries()) {
         *letter = match entry.act {
             Act::Fetch { .. } => b'f',
             Act::Load { .. } => b'l',
             Act::Store { .. } => b's',
             Act::Start { .. } => b'S',
-            Act::Copy { .. } => b'C',
+            Act::Copy { block } => b"01234567"[(block % 8) as usize],
             Act::End => b'E',
             Act::Tick => b'T',
             Act::Release => b'R',
@@ -120,123 +140,178 @@ fn letters(core: MemCore) -> [u8; 16] {
     letters
 }
 
+/// A gate that keeps what it is told: a kind with its place, or 0 and a block that is hashed.
+#[derive(Drop)]
+struct Recorder {
+    spots: RefCell<Vec<(u32, u64)>>,
+}
+
+impl Gate for Recorder {
+    fn at(&self, actor: u32, spot: Spot) {
+        let told = match spot {
+            Spot::Made { kind, place } => (kind, place),
+            Spot::Waits { place } => (9, place),
+            Spot::Hashing { block } => (0, u64::from(block)),
+        };
+        if actor == 0
+            && let Ok(mut spots) = self.spots.try_borrow_mut()
+        {
+            let _ = spots.push(told);
+        }
+    }
+}
+
 #[test]
-fn a_pass_alone_makes_its_program(rt: HostRuntime) -> Result<(), Fail> {
-    let asked = challenge(Discipline::Dec, 0, 0, 8);
-    let mut core = core_of(&rt, 4, 100)?;
-    let digest = tag("7190027f6545bc6a078d41209bd1bf374bbedcdfeeff96db4c846325062c7a49")?;
+fn a_pass_over_two_ranges(rt: HostRuntime) -> Result<(), Fail> {
+    let asked = challenge(Discipline::Dec, 0, 0, 1);
+    let ranges = two_ranges()?;
+    let mut core = core_of(&rt, ranges, 100)?;
+    let gate = Recorder {
+        spots: RefCell::new(Vec::new(rt.alloc())),
+    };
+    let digest = tag("fe4e39823f710934d142ef8969ed02993785dad6383d7f0acd1eed89b62c2bb9")?;
+    let expected = report(&asked, ranges, 1, 5, digest);
     assert_eq!(rt;
-        measure_alone(&mut core, &asked),
+        measure_alone(&mut core, &asked, &gate),
         Some(Measured::Done {
-            report: report(&asked, 4, 1, 6, digest),
+            report: expected,
             note: None,
         })
     );
-    assert_eq!(rt; &letters(core), b"SCCCCE..........");
+    assert_eq!(rt; &letters(core), b"S125E.......");
+    if expected.is_valid() {
+        assert_eq!(rt; write_report(&expected).as_slice().len(), 108);
+    }
+    let spots = gate.spots.into_inner();
+    let told: [(u32, u64); 8] = [
+        (4, 1),
+        (5, 2),
+        (0, 1),
+        (5, 3),
+        (0, 2),
+        (5, 4),
+        (0, 5),
+        (6, 5),
+    ];
+    assert_eq!(rt; spots.as_slice(), told.as_slice());
     Ok(())
+}
+
+/// Whoever looks on while a block is hashed: each thing that comes adds a digit.
+#[derive(Drop)]
+struct Onlooker {
+    steps: Cell<u32>,
+}
+
+impl Gate for Onlooker {
+    fn at(&self, _actor: u32, _spot: Spot) {
+        self.steps
+            .set(self.steps.get().wrapping_mul(10).wrapping_add(1));
+    }
+}
+
+/// A taker that shows the onlooker that it takes something in.
+#[derive(Drop)]
+struct Shown<'a> {
+    onlooker: &'a Onlooker,
+}
+
+impl Taker for Shown<'_> {
+    ghost takes = { λ old new piece. Unit {0} };
+
+    fn take(&mut self, _piece: &[u8]) {
+        let steps = &self.onlooker.steps;
+        steps.set(steps.get().wrapping_mul(10).wrapping_add(2));
+    }
+}
+
+#[test]
+fn a_block_is_hashed_after_the_gate_was_told(rt: HostRuntime) {
+    let onlooker = Onlooker {
+        steps: Cell::new(0),
+    };
+    hash_block(
+        &mut Shown {
+            onlooker: &onlooker,
+        },
+        3,
+        b"bytes",
+        &onlooker,
+    );
+    assert_eq!(rt; onlooker.steps.get(), 12);
 }
 
 #[test]
 fn a_full_history_ends_the_program_early(rt: HostRuntime) -> Result<(), Fail> {
-    let asked = challenge(Discipline::Dec, 0, 0, 8);
-    let mut core = core_of(&rt, 4, 4)?;
+    let ranges = first_blocks(4)?;
+    let asked = challenge(Discipline::Dec, 1, 0, 8);
+    let mut core = core_of(&rt, ranges, 4)?;
     assert_eq!(rt;
-        measure_alone(&mut core, &asked),
+        measure_alone(&mut core, &asked, &NoGate),
         Some(Measured::Full {
             place: 4,
             report: None,
         })
     );
-    assert_eq!(rt; &letters(core), b"SCCC............");
+    assert_eq!(rt; &letters(core), b"TS01........");
 
     let held = challenge(Discipline::AllExt, 0, 2, 11);
-    let mut core = core_of(&rt, 4, 7)?;
+    let mut core = core_of(&rt, ranges, 7)?;
     let digest = tag("5aa595a12f2dec3aa01bfb77d71980ddb46b636d37a057a48768f8d6090e14ef")?;
     assert_eq!(rt;
-        measure_alone(&mut core, &held),
+        measure_alone(&mut core, &held, &NoGate),
         Some(Measured::Full {
             place: 7,
-            report: Some(report(&held, 4, 1, 6, digest)),
+            report: Some(report(&held, ranges, 1, 6, digest)),
         })
     );
-    assert_eq!(rt; &letters(core), b"SCCCCET.........");
-
-    let led = challenge(Discipline::Inc, 3, 0, 8);
-    let mut core = core_of(&rt, 4, 2)?;
-    assert_eq!(rt;
-        measure_alone(&mut core, &led),
-        Some(Measured::Full {
-            place: 2,
-            report: None,
-        })
-    );
-    assert_eq!(rt; &letters(core), b"TT..............");
-    Ok(())
-}
-
-#[test]
-fn an_extended_pass_leads_and_releases(rt: HostRuntime) -> Result<(), Fail> {
-    let asked = challenge(Discipline::IncExt, 2, 0, 2);
-    let mut core = core_of(&rt, 1, 100)?;
-    let digest = tag("48d22bf397c8631497368892d0f2c355278e087b10622e3eb962c9cf697481e1")?;
-    let released = tag("67001a804f7b14f74c8bf4884a4c796f91b2df11e7e2b297fdc055c4a54e5b59")?;
-    assert_eq!(rt;
-        measure_alone(&mut core, &asked),
-        Some(Measured::Done {
-            report: report(&asked, 1, 3, 5, digest),
-            note: Some(Note {
-                counter: 2,
-                start: 3,
-                end: 5,
-                release: 6,
-                tag: released,
-            }),
-        })
-    );
-    assert_eq!(rt; &letters(core), b"TTSCER..........");
+    assert_eq!(rt; &letters(core), b"S0123ET.....");
     Ok(())
 }
 
 #[test]
 fn stores_between_the_steps_change_no_instant(rt: HostRuntime) -> Result<(), Fail> {
+    let ranges = first_blocks(4)?;
+
     // the last block holds 1 at Start, and is stored into again once it is copied
     let dec = challenge(Discipline::Dec, 0, 0, 8);
-    let mut core = core_of(&rt, 4, 100)?;
+    let mut core = core_of(&rt, ranges, 100)?;
     let digest = tag("4f126a0e02a3d13d5d2c243199989efd230d331c28f3469b7448f4f0f8889a8b")?;
     assert_eq!(rt;
         measure_busy(&mut core, BASE + 48, &dec),
         Some(Measured::Done {
-            report: report(&dec, 4, 2, 8, digest),
+            report: report(&dec, ranges, 2, 8, digest),
             note: None,
         })
     );
-    assert_eq!(rt; &letters(core), b"sSCCCCsE........");
+    assert_eq!(rt; &letters(core), b"sS0123sE....");
 
     // it holds 5 when it is copied, and is locked from then on until End
     let inc = challenge(Discipline::Inc, 0, 0, 9);
-    let mut core = core_of(&rt, 4, 100)?;
+    let mut core = core_of(&rt, ranges, 100)?;
     let digest = tag("691acf3b00ae130e138cd6a3666fcc02915c8c4ef307665b54bd9257f041b609")?;
     assert_eq!(rt;
         measure_busy(&mut core, BASE + 48, &inc),
         Some(Measured::Done {
-            report: report(&inc, 4, 2, 11, digest),
+            report: report(&inc, ranges, 2, 11, digest),
             note: None,
         })
     );
-    assert_eq!(rt; &letters(core), b"sSsCsCsCsCE.....");
+    assert_eq!(rt; &letters(core), b"sSs0s1s2s3E.");
     Ok(())
 }
 
 #[test]
 fn stores_wait_until_release(rt: HostRuntime) -> Result<(), Fail> {
+    let ranges = first_blocks(4)?;
     let asked = challenge(Discipline::AllExt, 0, 0, 11);
-    let mut core = core_of(&rt, 4, 100)?;
+    let mut core = core_of(&rt, ranges, 100)?;
     let digest = tag("008ee6c580b2eefc50f80be1cf65d6b1a634fb802cd94dee87386d5571e62f9a")?;
     let released = tag("5d4160189dae2c1c01a57ccb3a456da24ef018d8eaa52271d120447d0e75f457")?;
     assert_eq!(rt;
         measure_busy(&mut core, BASE + 48, &asked),
         Some(Measured::Done {
-            report: report(&asked, 4, 2, 7, digest),
+            report: report(&asked, ranges, 2, 7, digest),
             note: Some(Note {
                 counter: 11,
                 start: 2,
@@ -246,79 +321,45 @@ fn stores_wait_until_release(rt: HostRuntime) -> Result<(), Fail> {
             }),
         })
     );
-    assert_eq!(rt; &letters(core), b"sSCCCCER........");
+    assert_eq!(rt; &letters(core), b"sS0123ER....");
     Ok(())
 }
 
-// What the machine wants before it is over, with the places told, if the challenge is valid.
-fn wanted(challenge: &Challenge, shape: &Shape) -> Option<([PassWant; 12], u64, u64)> {
-    let mut wants = [PassWant::Over; 12];
-    let blocks = u64::from(shape.first) + u64::from(shape.attested);
-    if !challenge.is_valid() || blocks > u64::from(u32::MAX) {
-        return None;
-    }
-    let mut machine = PassMachine::new(challenge, shape);
-    for step in 0..wants.len() {
-        if machine.is_over() {
-            break;
-        }
-        wants[step] = machine.want();
-        machine.told(7 + step as u64);
-    }
-    Some((wants, machine.start(), machine.end()))
-}
-
 #[test]
-fn the_machine_wants_the_program(rt: HostRuntime) {
+fn the_machine_wants_the_program(rt: HostRuntime) -> Result<(), Fail> {
     use PassWant::{Copy, End, Over, Release, Start, Tick};
     let shape = Shape {
         base: BASE,
         size: 16,
-        first: 3,
-        attested: 2,
+        ranges: two_ranges()?,
     };
-    let held = challenge(Discipline::AllExt, 2, 3, 1);
-    let plain = challenge(Discipline::Dec, 1, 0, 1);
+    let asked = challenge(Discipline::AllExt, 2, 1, 1);
+    let mut wants = [Over; 10];
+    if asked.is_valid() {
+        let mut machine = PassMachine::new(&asked, &shape);
+        for (step, want) in wants.iter_mut().enumerate() {
+            if machine.is_over() {
+                break;
+            }
+            *want = machine.want();
+            machine.told(7 + step as u64);
+        }
+        assert_eq!(rt; (machine.start(), machine.end()), (9, 13));
+    }
     assert_eq!(rt;
-        wanted(&held, &shape),
-        Some((
-            [
-                Tick,
-                Tick,
-                Start,
-                Copy(3),
-                Copy(4),
-                End,
-                Tick,
-                Tick,
-                Tick,
-                Release,
-                Over,
-                Over
-            ],
-            9,
-            12,
-        ))
+        wants,
+        [
+            Tick,
+            Tick,
+            Start,
+            Copy(1),
+            Copy(2),
+            Copy(5),
+            End,
+            Tick,
+            Release,
+            Over
+        ]
     );
-    assert_eq!(rt;
-        wanted(&plain, &shape),
-        Some((
-            [
-                Tick,
-                Start,
-                Copy(3),
-                Copy(4),
-                End,
-                Over,
-                Over,
-                Over,
-                Over,
-                Over,
-                Over,
-                Over
-            ],
-            8,
-            11,
-        ))
-    );
+    Ok(())
 }

@@ -16,14 +16,14 @@ use Rattle.mem_core.specs.declared.wants.Answer.TheVariants.{Done, Again, Full}
 use Rattle.mem_core.specs.Cores.{Core}
 
 -- the act that is wanted, with the value that was read
-abbrev pub act_of : Want → ℕ → Act
-act_of (Fetch addr) read = act.Fetch addr read
-act_of (Load addr width) read = act.Load addr width read
-act_of (Store addr width value) read = act.Store addr width value
-act_of (Start discipline counter) read = act.Start discipline counter
-act_of End read = act.End
-act_of Tick read = act.Tick
-act_of Release read = act.Release
+abbrev pub act_wanted : Want → ℕ → Act
+act_wanted (Fetch addr) read = act.Fetch addr read
+act_wanted (Load addr width) read = act.Load addr width read
+act_wanted (Store addr width value) read = act.Store addr width value
+act_wanted (Start discipline counter) read = act.Start discipline counter
+act_wanted End read = act.End
+act_wanted Tick read = act.Tick
+act_wanted Release read = act.Release
 
 -- what is read: the bytes of memory as it is now; 0 where nothing is read
 abbrev pub value_read : Core → Want → ℕ
@@ -56,15 +56,15 @@ has_to_wait core Tick = false
 has_to_wait core Release = false
 
 -- the core with one entry more
-abbrev pub with_entry : Core → Entry → Core
-with_entry core entry = record core { history = core.history ++ entry ∷ [] }
+abbrev pub core_with : Core → Entry → Core
+core_with core entry = record core { history = core.history ++ entry ∷ [] }
 
 -- The event was made: there was room for its entry, and it didn't have to wait.
 pub record Makes (old new : Core) (actor : ℕ) (want : Want) (value place : ℕ) : Type 0 where
   pub room : length old.history < old.world.cap
   pub free : has_to_wait old want ≡ false
   pub read : value ≡ value_read old want
-  pub grown : new ≡ with_entry old (entry_by actor (act_of want (value_read old want)))
+  pub grown : new ≡ core_with old (entry_by actor (act_wanted want (value_read old want)))
   pub at : place ≡ length new.history
 
 -- The store has to wait, in a history with room.
@@ -75,7 +75,7 @@ pub record Waits (old new : Core) (want : Want) (place : ℕ) : Type 0 where
   pub at : place ≡ length old.history
 
 -- The history is full.
-pub record Stops (old new : Core) (place : ℕ) : Type 0 where
+pub record FindsFull (old new : Core) (place : ℕ) : Type 0 where
   pub full : length old.history ≡ old.world.cap
   pub same : new ≡ old
   pub at : place ≡ length old.history
@@ -84,34 +84,34 @@ pub record Stops (old new : Core) (place : ℕ) : Type 0 where
 abbrev pub HasAnswered : Core → Core → ℕ → Want → Answer → Type 0
 HasAnswered old new actor want (Done value place) = Makes old new actor want value place
 HasAnswered old new actor want (Again place) = Waits old new want place
-HasAnswered old new actor want (Full place) = Stops old new place
+HasAnswered old new actor want (Full place) = FindsFull old new place
 
 -- The copy was made: the buffer has the block's bytes.
 pub record Copies (old new : Core) (block : ℕ) (after : List ℕ) (value place : ℕ) : Type 0 where
   pub room : length old.history < old.world.cap
   pub read : value ≡ 0
-  pub grown : new ≡ with_entry old (entry_by 0 (act.Copy block))
+  pub grown : new ≡ core_with old (entry_by 0 (act.Copy block))
   pub at : place ≡ length new.history
   pub bytes : after ≡ block_bytes old.world (memory_after old.world (reverse old.history)) block
 
 -- what the answer to a copy says: it never has to wait, and where the history is full the buffer stays
-abbrev pub HasCopied : Core → Core → ℕ → List ℕ → List ℕ → Answer → Type 0
-HasCopied old new block before after (Done value place) = Copies old new block after value place
-HasCopied old new block before after (Again place) = ⊥
-HasCopied old new block before after (Full place) = Stops old new place × (after ≡ before)
+abbrev pub HasAnsweredCopy : Core → Core → ℕ → List ℕ → List ℕ → Answer → Type 0
+HasAnsweredCopy old new block before after (Done value place) = Copies old new block after value place
+HasAnsweredCopy old new block before after (Again place) = ⊥
+HasAnsweredCopy old new block before after (Full place) = FindsFull old new place × (after ≡ before)
 
 -- how many bytes the answer's value may have: a load's width, and else those of a word
-abbrev pub width_of : Want → Width
-width_of (Load addr width) = width
-width_of (Fetch addr) = Word
-width_of (Store addr width value) = Word
-width_of (Start discipline counter) = Word
-width_of End = Word
-width_of Tick = Word
-width_of Release = Word
+abbrev pub width_answered : Want → Width
+width_answered (Load addr width) = width
+width_answered (Fetch addr) = Word
+width_answered (Store addr width value) = Word
+width_answered (Start discipline counter) = Word
+width_answered End = Word
+width_answered Tick = Word
+width_answered Release = Word
 
 -- the value is below 256 to the number of these bytes
 abbrev pub AnswersWithin : Want → Answer → Type 0
-AnswersWithin want (Done value place) = value < 256 ^ width_bytes (width_of want)
+AnswersWithin want (Done value place) = value < 256 ^ width_bytes (width_answered want)
 AnswersWithin want (Again place) = Unit {0}
 AnswersWithin want (Full place) = Unit {0}

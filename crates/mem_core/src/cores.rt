@@ -6,7 +6,8 @@ ghost use Rattle.chronicle.specs.Ports.{entry_by};
 use crate::wants::{Answer, Want};
 use block_memory::BlockMemory;
 use chronicle::{Act, Chronicle, Chronicled, Discipline, Entry, Width, World};
-use lock_plan::{Plan, PlanStep};
+use history::blocks_in_order;
+use lock_plan::{Plan, PlanStep, order_gives_next_step};
 use std::alloc::{AllocError, Global};
 use std::marker::Model;
 use std::mem::size_of;
@@ -58,7 +59,7 @@ impl MemCore {
     ghost use Rattle.history.specs.Pass.{pass_after};
     ghost use Rattle.history.specs.Legal.{IsLegal, actor_fits, in_range, in_order};
     ghost use Rattle.chronicle.specs.Ports.{entry_by};
-    ghost use Rattle.mem_core.specs.Wants.{AnswersWithin, HasAnswered, HasCopied, StoresWithin, act_of};
+    ghost use Rattle.mem_core.specs.Wants.{AnswersWithin, HasAnswered, HasAnsweredCopy, StoresWithin, act_wanted};
 
     /// A core of this world, with no entry yet. Only want of memory refuses it.
     pub fn new(alloc: Global, world: World) -> Result<MemCore, AllocError>
@@ -67,7 +68,7 @@ impl MemCore {
     {
         let entries = Vec::with_capacity(alloc, world.cap() as usize)?;
         let memory = BlockMemory::new(alloc, world.geometry(), world.image())?;
-        let plan = Plan::new(world.first(), world.attested());
+        let plan = Plan::new(*world.ranges());
         Ok(MemCore {
             world,
             entries,
@@ -130,11 +131,11 @@ impl MemCore {
     /// `Full` exactly where the history is at its cap, before `Again`; `Again` exactly where a store's
     /// block is locked. The value is what was read, or 0.
     pub fn act(&mut self, actor: u32, want: Want) -> Answer
-        requires actor { IsTrue (actor_fits (entry_by actor (act_of want 0))) }
-        requires range { IsTrue (in_range self.old.world (act_of want 0)) }
+        requires actor { IsTrue (actor_fits (entry_by actor (act_wanted want 0))) }
+        requires range { IsTrue (in_range self.old.world (act_wanted want 0)) }
         requires small { StoresWithin want }
         requires order { IsTrue (in_order self.old.world (pass_after (reverse self.old.history))
-            (act_of want 0)) }
+            (act_wanted want 0)) }
         ensures answer { HasAnswered self.old self.new actor want result }
         ensures small { AnswersWithin want result }
         ensures setting { IsSetting self.new.world }
@@ -166,7 +167,7 @@ impl MemCore {
         requires order { IsTrue (in_order self.old.world (pass_after (reverse self.old.history))
             (act.Copy block)) }
         requires room { length into.old ≡ self.old.world.layout.size }
-        ensures answer { HasCopied self.old self.new block into.old into.new result }
+        ensures answer { HasAnsweredCopy self.old self.new block into.old into.new result }
         ensures setting { IsSetting self.new.world }
         ensures legal { IsLegal self.new.world self.new.history }
     {
@@ -183,10 +184,12 @@ impl MemCore {
         requires order { IsTrue (in_order self.old.world (pass_after (reverse self.old.history))
             (act.Copy block)) }
         requires room { length into.old ≡ self.old.world.layout.size }
-        ensures answer { HasCopied self.old self.new block into.old into.new result }
+        ensures answer { HasAnsweredCopy self.old self.new block into.old into.new result }
         ensures setting { IsSetting self.new.world }
         ensures legal { IsLegal self.new.world self.new.history }
     {
+        blocks_in_order();
+        order_gives_next_step();
         self.memory.copy_block(block, into);
         self.plan.copied();
         let place = append(&mut self.entries, 0, Act::Copy { block });

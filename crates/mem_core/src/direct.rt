@@ -43,9 +43,15 @@ impl Viewed for Direct<'_> {
     ghost low = { λ port. port.actor };
 
     ghost high = { λ port. port.actor + 1 };
+
+    ghost alone = { Unit {0} };
 }
 
 impl MemPort for Direct<'_> {
+    fn actor(&self) -> u32 {
+        self.actor
+    }
+
     fn fetch(&mut self, addr: u32) -> Read {
         match self.core.act(self.actor, Want::Fetch { addr }) {
             Answer::Done { value, place } => Read::Done { value, place },

@@ -1,22 +1,21 @@
-//! What a core's owner learns of it after a run over any port, and passes whose answers were found by hand.
+//! What a core's owner learns of it after a run over any port, and events whose answers were found by hand.
 
 ghost use Rattle.std.specs.Prelude.{◌≡◌, ◌^◌, ◌<◌, IsTrue, length, reverse};
 ghost use Rattle.history.specs.declared.events.Act.TheVariants as act;
-ghost use Rattle.history.specs.declared.events.Discipline.TheVariants.{AllExt};
 ghost use Rattle.history.specs.declared.events.Width.TheVariants.{Word};
 ghost use Rattle.history.specs.Layout.{fits, is_aligned};
 ghost use Rattle.history.specs.Pass.{pass_after};
 ghost use Rattle.history.specs.Legal.{IsLegal, actor_fits, in_range, in_order};
-ghost use Rattle.chronicle.specs.Ports.{HasStepped, IsApplication, IsMeasurer, entry_by};
-ghost use Rattle.mem_core.specs.Wants.{act_of, StoresWithin};
+ghost use Rattle.chronicle.specs.Ports.{HasStepped, IsApplication, IsMeasurer, KeepsPort, entry_by};
+ghost use Rattle.mem_core.specs.Wants.{act_wanted, StoresWithin};
 
 use super::*;
 use block_memory::aligned;
 use chronicle::{
     Act, BlockPort, Chronicled, Discipline, Entry, Geometry, MemPort, Read, Step, Stored, Width,
-    World, answers_move_the_plan, order_by_plan,
+    World,
 };
-use lock_plan::PlanStep;
+use lock_plan::{PlanStep, Range, Ranges};
 use std::alloc::Global;
 use std::process::Abort;
 use std::test::Fail;
@@ -24,8 +23,8 @@ use std::test::Fail;
 /// Lets time go by, over any port of the measurer.
 fn wait_once<P: BlockPort>(port: &mut P) -> Step
     requires { IsMeasurer (P.low port.old) (P.high port.old) }
-    ensures owner { P.owner port.new ≡ P.owner port.old }
-    ensures world { P.world port.new ≡ P.world port.old }
+    ensures port { KeepsPort (P.owner port.old) (P.owner port.new) (P.world port.old) (P.world port.new)
+        (P.low port.old) (P.low port.new) (P.high port.old) (P.high port.new) }
     ensures legal { IsLegal (P.world port.old) (P.seen port.new) }
     ensures answer { HasStepped (P.world port.old) (P.low port.old) (P.high port.old)
         (P.seen port.old) (P.seen port.new) act.Tick result }
@@ -62,10 +61,10 @@ enum Event {
 /// The want may be asked now: its actor and its address fit, and it is in order.
 fn may_ask(core: &MemCore, actor: u32, want: Want) -> bool
     ensures { IsTrue result
-        → IsTrue (actor_fits (entry_by actor (act_of want 0)))
-        × IsTrue (in_range core.now.world (act_of want 0))
+        → IsTrue (actor_fits (entry_by actor (act_wanted want 0)))
+        × IsTrue (in_range core.now.world (act_wanted want 0))
         × StoresWithin want
-        × IsTrue (in_order core.now.world (pass_after (reverse core.now.history)) (act_of want 0)) }
+        × IsTrue (in_order core.now.world (pass_after (reverse core.now.history)) (act_wanted want 0)) }
 {
     let geometry = core.world().geometry();
     let application = actor >= 1 && actor <= 8;
@@ -179,139 +178,81 @@ fn full(place: u64) -> Answer {
     Answer::Full { place }
 }
 
-/// A core over so many blocks of 16 zero bytes from 0x80000000 on.
-fn core_of(
-    rt: &impl Alloc<A = Global>,
-    blocks: u32,
-    first: u32,
-    attested: u32,
-    cap: u64,
-) -> Result<MemCore, Fail> {
+/// A core over eight blocks of 16 zero bytes from 0x80000000 on, of which blocks 1, 2 and 5 are attested.
+fn core_of(rt: &impl Alloc<A = Global>, cap: u64) -> Result<MemCore, Fail> {
     let alloc = rt.alloc();
-    let geometry = Geometry::new(0x8000_0000, 16, blocks).ok_or("no geometry")?;
+    let geometry = Geometry::new(0x8000_0000, 16, 8).ok_or("no geometry")?;
+    let list = [
+        Range {
+            first: 1,
+            attested: 2,
+        },
+        Range {
+            first: 5,
+            attested: 1,
+        },
+    ];
+    let ranges = Ranges::new(&list).ok_or("no ranges")?;
     let image = vec![in alloc; 0u8; geometry.byte_count() as usize]?;
-    let world = World::new(geometry, first, attested, image, cap).ok_or("no world")?;
+    let world = World::new(geometry, ranges, image, cap).ok_or("no world")?;
     Ok(MemCore::new(alloc, world)?)
 }
 
-/// A store before, in and after a pass of each discipline. A locked block is Again, and no other.
+/// A store before, in and after a pass: a locked block is Again, and no other, least of all one between two ranges. An
+/// extended discipline holds its locks past End, until Release.
 #[test]
-fn each_discipline_locks_as_its_table_says(rt: HostRuntime) -> Result<(), Fail> {
-    let first = 0x8000_0000;
-    let last = 0x8000_0030;
+fn a_pass_goes_over_two_ranges(rt: HostRuntime) -> Result<(), Fail> {
+    let first = 0x8000_0010;
+    let last = 0x8000_0050;
     let dec = [
         (put(0x8000_0020, Width::Word, 7), done(1)),
         (begin(Discipline::Dec), done(2)),
-        (Event::Copy(0, 0, 0), done(3)),
-        (put(first, Width::Word, 0x1111_1111), done(4)),
-        (put(last, Width::Word, 0x2222_2222), again(4)),
-        (Event::Copy(1, 0, 0), done(5)),
+        (put(0x8000_0030, Width::Byte, 1), done(3)),
+        (Event::Copy(1, 0, 0), done(4)),
+        (put(first, Width::Word, 0x1111_1111), done(5)),
+        (put(last, Width::Word, 0x2222_2222), again(5)),
         (Event::Copy(2, 7, 0), done(6)),
-        (Event::Copy(3, 0, 0), done(7)),
+        (Event::Copy(5, 0, 0), done(7)),
         (put(last, Width::Word, 0x2222_2222), done(8)),
         (step(Want::End), done(9)),
         (get(first, Width::Word), read(0x1111_1111, 10)),
     ];
-    let inc = [
-        (put(0x8000_003f, Width::Byte, 3), done(1)),
-        (begin(Discipline::Inc), done(2)),
-        (put(last, Width::Word, 0x2a), done(3)),
-        (Event::Copy(0, 0, 0), done(4)),
-        (put(first, Width::Byte, 0xff), again(4)),
-        (Event::Copy(1, 0, 0), done(5)),
+    let inc_ext = [
+        (put(first, Width::Half, 0x0201), done(1)),
+        (begin(Discipline::IncExt), done(2)),
+        (put(first, Width::Byte, 4), done(3)),
+        (Event::Copy(1, 4, 0), done(4)),
+        (put(first, Width::Byte, 5), again(4)),
+        (put(last, Width::Byte, 9), done(5)),
         (Event::Copy(2, 0, 0), done(6)),
-        (Event::Copy(3, 0x2a, 3), done(7)),
+        (Event::Copy(5, 9, 0), done(7)),
         (step(Want::End), done(8)),
-        (put(first, Width::Byte, 0xff), done(9)),
+        (put(first, Width::Byte, 5), again(8)),
+        (step(Want::Release), done(9)),
+        (put(first, Width::Byte, 5), done(10)),
+        (fetch(first), read(0x0205, 11)),
     ];
-    let all = [
-        (put(0x8000_003f, Width::Byte, 1), done(1)),
-        (begin(Discipline::All), done(2)),
-        (put(0x8000_003f, Width::Byte, 2), again(2)),
-        (Event::Copy(0, 0, 0), done(3)),
-        (Event::Copy(1, 0, 0), done(4)),
-        (Event::Copy(2, 0, 0), done(5)),
-        (Event::Copy(3, 0, 1), done(6)),
-        (step(Want::End), done(7)),
-        (put(0x8000_003f, Width::Byte, 2), done(8)),
-    ];
-    for events in [dec.as_slice(), inc.as_slice(), all.as_slice()] {
-        let mut core = core_of(&rt, 4, 0, 4, 1000)?;
+    for events in [dec.as_slice(), inc_ext.as_slice()] {
+        let mut core = core_of(&rt, 1000)?;
         play(&rt, &mut core, events);
         assert_eq!(rt; count_of(&core), core.length());
     }
     Ok(())
 }
 
-/// The extended disciplines hold their locks past End, until Release.
+/// A full history is Full before it is Again.
 #[test]
-fn an_extended_discipline_locks_until_release(rt: HostRuntime) -> Result<(), Fail> {
-    let first = 0x8000_0000;
-    let all_ext = [
-        (put(0x8000_0010, Width::Half, 0x0605), done(1)),
-        (begin(Discipline::AllExt), done(2)),
-        (Event::Copy(0, 0, 0), done(3)),
-        (Event::Copy(1, 5, 0), done(4)),
-        (Event::Copy(2, 0, 0), done(5)),
-        (Event::Copy(3, 0, 0), done(6)),
-        (step(Want::End), done(7)),
-        (put(first, Width::Byte, 5), again(7)),
-        (step(Want::Tick), done(8)),
-        (step(Want::Tick), done(9)),
-        (step(Want::Release), done(10)),
-        (put(first, Width::Byte, 5), done(11)),
-    ];
-    let inc_ext = [
-        (put(first, Width::Half, 0x0201), done(1)),
-        (begin(Discipline::IncExt), done(2)),
-        (put(first, Width::Byte, 4), done(3)),
-        (Event::Copy(0, 4, 0), done(4)),
-        (put(first, Width::Byte, 5), again(4)),
-        (Event::Copy(1, 0, 0), done(5)),
-        (Event::Copy(2, 0, 0), done(6)),
-        (Event::Copy(3, 0, 0), done(7)),
-        (step(Want::End), done(8)),
-        (put(first, Width::Byte, 5), again(8)),
-        (get(first, Width::Word), read(0x0204, 9)),
-        (step(Want::Release), done(10)),
-        (put(first, Width::Byte, 5), done(11)),
-        (fetch(first), read(0x0205, 12)),
-    ];
-    for events in [all_ext.as_slice(), inc_ext.as_slice()] {
-        let mut core = core_of(&rt, 4, 0, 4, 1000)?;
-        play(&rt, &mut core, events);
-    }
-    Ok(())
-}
-
-/// Blocks that aren't attested are never locked, and a full history is Full before it is Again.
-#[test]
-fn locks_and_the_cap_have_their_bounds(rt: HostRuntime) -> Result<(), Fail> {
-    let one_block = [
-        (begin(Discipline::Dec), done(1)),
-        (put(0x8000_0000, Width::Byte, 1), again(1)),
-        (Event::Copy(0, 0, 0), done(2)),
-        (put(0x8000_0000, Width::Byte, 1), done(3)),
-        (step(Want::End), done(4)),
-    ];
-    let two_of_four = [
-        (begin(Discipline::All), done(1)),
-        (put(0x8000_0000, Width::Byte, 1), done(2)),
-        (put(0x8000_0010, Width::Byte, 1), again(2)),
-        (put(0x8000_0030, Width::Byte, 1), done(3)),
-    ];
+fn a_history_has_its_cap(rt: HostRuntime) -> Result<(), Fail> {
+    let mut core = core_of(&rt, 3)?;
     let three_entries = [
         (step(Want::Tick), done(1)),
         (begin(Discipline::All), done(2)),
-        (put(0x8000_0000, Width::Byte, 1), again(2)),
+        (put(0x8000_0010, Width::Byte, 1), again(2)),
         (step(Want::Tick), done(3)),
-        (put(0x8000_0000, Width::Byte, 1), full(3)),
+        (put(0x8000_0010, Width::Byte, 1), full(3)),
         (step(Want::Tick), full(3)),
-        (Event::Copy(0, 9, 9), full(3)),
+        (Event::Copy(1, 9, 9), full(3)),
     ];
-    play(&rt, &mut core_of(&rt, 1, 0, 1, 100)?, &one_block);
-    play(&rt, &mut core_of(&rt, 4, 1, 2, 100)?, &two_of_four);
-    let mut core = core_of(&rt, 4, 0, 4, 3)?;
     play(&rt, &mut core, &three_entries);
 
     let kept = core.into_chronicle();
@@ -324,56 +265,35 @@ fn locks_and_the_cap_have_their_bounds(rt: HostRuntime) -> Result<(), Fail> {
     Ok(())
 }
 
-/// A pass of one block over any port of the measurer. None where the history fills.
-fn measure_block<P: BlockPort>(port: &mut P, into: &mut [u8]) -> Option<u64>
-    requires actor { IsMeasurer (P.low port.old) (P.high port.old) }
-    requires one { (P.world port.old).attested ≡ 1 }
-    requires order { IsTrue (in_order (P.world port.old) (pass_after (reverse (P.seen port.old)))
-        (act.Start AllExt 1)) }
-    requires room { length into.old ≡ (P.world port.old).layout.size }
-    ensures owner { P.owner port.new ≡ P.owner port.old }
-    ensures world { P.world port.new ≡ P.world port.old }
-    ensures legal { IsLegal (P.world port.old) (P.seen port.new) }
+/// The next step of the measurer, by its port. None where the buffer isn't as long as a block.
+fn take_next(core: &mut MemCore, into: &mut [u8]) -> Option<Step>
+    ensures { core.new.world ≡ core.old.world }
 {
-    answers_move_the_plan();
-    order_by_plan();
-    let shape = port.shape();
-    let Step::Done { .. } = port.start(Discipline::AllExt, 1) else {
-        return None;
-    };
-    let Step::Done { .. } = port.copy(shape.first, into) else {
-        return None;
-    };
-    let Step::Done { place } = port.end() else {
-        return None;
-    };
-    Some(place)
-}
-
-/// Gives up the locks that are held, if that comes next.
-fn release_next(core: &mut MemCore) -> Option<Step> {
-    if core.next() != PlanStep::Release {
+    if core.world().geometry().size() as usize != into.len() {
         return None;
     }
-    Some(Direct::new(core, 0).release())
+    Some(match core.next() {
+        PlanStep::Start => Direct::new(core, 0).start(Discipline::AllExt, 1),
+        PlanStep::Copy(block) => Direct::new(core, 0).copy(block, into),
+        PlanStep::End => Direct::new(core, 0).end(),
+        PlanStep::Release => Direct::new(core, 0).release(),
+    })
 }
 
 /// One of each access over any port of an application.
-fn access_word<P: MemPort>(port: &mut P, addr: u32) -> (Read, Stored, Read)
+fn access_word<P: MemPort>(port: &mut P, addr: u32) -> (u32, Read, Stored, Read)
     requires actor { IsApplication (P.low port.old) (P.high port.old) }
     requires fits { IsTrue (fits (P.world port.old).layout addr Word) }
     requires aligned { IsTrue (is_aligned addr Word) }
-    ensures owner { P.owner port.new ≡ P.owner port.old }
-    ensures world { P.world port.new ≡ P.world port.old }
     ensures legal { IsLegal (P.world port.old) (P.seen port.new) }
 {
     let fetched = port.fetch(addr);
     let stored = port.store(addr, Width::Word, 0x0102_0304);
-    (fetched, stored, port.load(addr, Width::Word))
+    (port.actor(), fetched, stored, port.load(addr, Width::Word))
 }
 
 /// The same over a core, if the address fits.
-fn access_core(core: &mut MemCore, addr: u32) -> Option<(Read, Stored, Read)> {
+fn access_core(core: &mut MemCore, addr: u32) -> Option<(u32, Read, Stored, Read)> {
     if !core.world().geometry().fits(addr, Width::Word) || !aligned(addr, Width::Word) {
         return None;
     }
@@ -382,27 +302,25 @@ fn access_core(core: &mut MemCore, addr: u32) -> Option<(Read, Stored, Read)> {
 
 #[test]
 fn both_ports_work_over_one_core(rt: HostRuntime) -> Result<(), Fail> {
-    let alloc = rt.alloc();
-    let geometry = Geometry::new(0x1000, 16, 1).ok_or("no geometry")?;
-    let image = vec![in alloc; 6u8; geometry.byte_count() as usize]?;
-    let Some(world) = World::new(geometry, 0, 1, image, 20) else {
-        return Err("no world".into());
-    };
-    let mut core = MemCore::new(alloc, world)?;
-    let mut buffer = [0u8; 16];
-    let ended = measure_block(&mut Direct::new(&mut core, 0), &mut buffer);
-    assert_eq!(rt; ended, Some(3));
-    assert_eq!(rt; release_next(&mut core), Some(Step::Done { place: 4 }));
-    assert_eq!(rt; buffer, [6u8; 16]);
+    let mut core = core_of(&rt, 20)?;
+    let mut buffer = [6u8; 16];
+    for place in 1..=6 {
+        assert_eq!(rt;
+            take_next(&mut core, &mut buffer),
+            Some(Step::Done { place })
+        );
+    }
+    assert_eq!(rt; buffer, [0u8; 16]);
     assert_eq!(rt;
         wait_once(&mut Direct::new(&mut core, 0)),
-        Step::Done { place: 5 }
+        Step::Done { place: 7 }
     );
-    assert_eq!(rt; owner_learns(&mut core), Step::Done { place: 6 });
-    let accessed = access_core(&mut core, 0x1000).ok_or("no access")?;
+    assert_eq!(rt; owner_learns(&mut core), Step::Done { place: 8 });
+    let accessed = access_core(&mut core, 0x8000_0000).ok_or("no access")?;
     let read = |value, place| Read::Done { value, place };
-    assert_eq!(rt; accessed.0, read(0x0606_0606, 7));
-    assert_eq!(rt; accessed.1, Stored::Done { place: 8 });
-    assert_eq!(rt; accessed.2, read(0x0102_0304, 9));
+    assert_eq!(rt; accessed.0, 8);
+    assert_eq!(rt; accessed.1, read(0, 9));
+    assert_eq!(rt; accessed.2, Stored::Done { place: 10 });
+    assert_eq!(rt; accessed.3, read(0x0102_0304, 11));
     Ok(())
 }

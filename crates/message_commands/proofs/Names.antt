@@ -4,12 +4,13 @@ use Rattle.std.proofs.lemmas.Bool.{leb-true, and_parts}
 use Rattle.std.proofs.lemmas.List.Elements.{All-nil, All-cons}
 use Rattle.toml.specs.Data.{Data, Items, no_items, item, Members, get_member, as_str, as_array}
 use Rattle.att_base.specs.Files.{IsName}
-use Rattle.file_rules.specs.Values.{when, is_between, number_at, document, file_name, name_of, name_at, names_of, counted, names_in, names_at}
-use Rattle.file_rules.specs.Rules.{rule, and_then, region, common}
-use Rattle.file_rules.specs.declared.common.Common.{Common}
+use Rattle.config_rules.specs.Values.{is_between, number_at, document, file_name, name_of, name_at, each_of, counted, array_in, names_in, names_at}
+use Rattle.sequencing.specs.Options.{when}
+use Rattle.config_rules.specs.Rules.{rule, and_then, region, common}
+use Rattle.config_rules.specs.declared.common.Common.{Common}
 use Rattle.verifier.specs.declared.files.VerifierPlan.{VerifierPlan}
-use Rattle.verifier.specs.Files.{plan_of, verifier_file}
-use Rattle.message_commands.specs.Plans.{IsNamed}
+use Rattle.verifier.specs.Files.{verifier_plan, verifier_file}
+use Rattle.message_commands.specs.Plans.{NamesFiles}
 
 -- a rule that holds found something
 found : {A B : Type 0} (P : Type 0) (number : ℕ) (o : Option A) (next : A → Result B ℕ) (b : B) → rule number o next ≡ Ok b → ((a : A) → o ≡ Some a → next a ≡ Ok b → P) → P
@@ -51,11 +52,11 @@ joined (Some name) (Some more) names is are e =
     let same : name ∷ more ≡ names = cc in
     subst (λ (all : List (List ℕ)). All IsName all) same (All-cons IsName name more (is name refl) (are more refl))
 
-named_items : (values : Items) (names : List (List ℕ)) → names_of values ≡ Some names → All IsName names
+named_items : (values : Items) (names : List (List ℕ)) → each_of name_of values ≡ Some names → All IsName names
 named_items no_items names e =
     let same : [] ≡ names = cc in
     subst (λ (all : List (List ℕ)). All IsName all) same (All-nil IsName)
-named_items (item value rest) names e = joined (name_of value) (names_of rest) names (λ name is. named_value value name is) (λ more are. named_items rest more are) e
+named_items (item value rest) names e = joined (name_of value) (each_of name_of rest) names (λ name is. named_value value name is) (λ more are. named_items rest more are) e
 
 record AreNames (names : List (List ℕ)) : Type 0 where
   named : All IsName names
@@ -71,8 +72,8 @@ counted_names all names are e =
 names_in_value : (value : Data) (names : List (List ℕ)) → names_in 1 64 value ≡ Some names → AreNames names
 unfolding names_in
 names_in_value value names e =
-    chosen (AreNames names) (counted 1 64) (option_and_then names_of (as_array value)) names e (λ all is then.
-    chosen (AreNames names) names_of (as_array value) all is (λ values array are. counted_names all names (named_items values all are) then))
+    chosen (AreNames names) (counted 1 64) (option_and_then (each_of name_of) (as_array value)) names e (λ all is then.
+    chosen (AreNames names) (each_of name_of) (as_array value) all is (λ values array are. counted_names all names (named_items values all are) then))
 
 names_at_key : (key : List ℕ) (members : Members) (names : List (List ℕ)) → names_at key members 1 64 ≡ Some names → AreNames names
 unfolding names_at
@@ -90,14 +91,14 @@ named_common members c e =
     let same : key ≡ c.key = ap (λ (x : Common). x.key) made_of in
     rw same at name)))
 
-pub named_plan : (bytes : List ℕ) (plan : VerifierPlan) → verifier_file bytes ≡ Ok plan → IsNamed plan
+pub named_plan : (bytes : List ℕ) (plan : VerifierPlan) → verifier_file bytes ≡ Ok plan → NamesFiles plan
 unfolding verifier_file
 named_plan bytes plan e =
-    found (IsNamed plan) 1 (document bytes) _ plan e (λ members text e1.
-    went_on (IsNamed plan) (common members) _ plan e1 (λ both is e2.
-    found (IsNamed plan) 9 (name_at (codes "challenge") members) _ plan e2 (λ challenge at e3.
-    found (IsNamed plan) 10 (names_at (codes "images") members 1 64) _ plan e3 (λ images all e4.
-    let made : plan_of both challenge images ≡ plan = cc in
+    found (NamesFiles plan) 1 (document bytes) _ plan e (λ members text e1.
+    went_on (NamesFiles plan) (common members) _ plan e1 (λ both is e2.
+    found (NamesFiles plan) 9 (name_at (codes "challenge") members) _ plan e2 (λ challenge at e3.
+    found (NamesFiles plan) 10 (names_at (codes "images") members 1 64) _ plan e3 (λ images all e4.
+    let made : verifier_plan both challenge images ≡ plan = cc in
     let names : AreNames images = names_at_key (codes "images") members images all in
-    let fact : IsNamed (plan_of both challenge images) = record { key = named_common members both is; challenge = named_at (codes "challenge") members challenge at; images = names.named; count = names.count } in
+    let fact : NamesFiles (verifier_plan both challenge images) = record { key = named_common members both is; challenge = named_at (codes "challenge") members challenge at; images = names.named; count = names.count } in
     rw made at fact))))

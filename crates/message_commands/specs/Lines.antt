@@ -1,4 +1,4 @@
--- The lines of the commands `challenge` and `verify`: those that say what is bad, and those that are printed.
+-- The lines that the commands `challenge` and `verify` print.
 use Rattle.std.specs.Prelude.{ℕ, List, ◌++◌, codes, Option, Some, None, option_map, slice_get}
 use Rattle.std.specs.Fmt.{decimal}
 use Rattle.att_base.specs.Files.{bytes_or_nothing}
@@ -8,22 +8,6 @@ use Rattle.verifier.specs.declared.verdicts.Verdict.{Verdict}
 use Rattle.verifier.specs.declared.verdicts.Verdict.TheVariants as verdicts
 use Rattle.verifier.specs.declared.verdicts.NoteVerdict.{NoteVerdict}
 use Rattle.verifier.specs.declared.verdicts.NoteVerdict.TheVariants as notes
-
--- a key file of this name that hasn't 1 to 1,024 bytes
-unfoldable pub key_line : List ℕ → List ℕ
-key_line name = codes "attest: bad input " ++ (name ++ codes " key 1\n")
-
--- a verifier file of this name that fails a rule first
-unfoldable pub verifier_line : List ℕ → ℕ → List ℕ
-verifier_line name rule = codes "attest: bad input " ++ (name ++ (codes " verifier " ++ (decimal rule ++ codes "\n")))
-
--- a challenge file of this name that is malformed, 1, or has another MAC, 2
-unfoldable pub challenge_fault_line : List ℕ → ℕ → List ℕ
-challenge_fault_line name fault = codes "attest: bad input " ++ (name ++ (codes " challenge " ++ (decimal fault ++ codes "\n")))
-
--- an image of this name that has another length than the attested blocks, 1, or a name that stands before, 2
-unfoldable pub image_line : List ℕ → ℕ → List ℕ
-image_line name fault = codes "attest: bad input " ++ (name ++ (codes " image " ++ (decimal fault ++ codes "\n")))
 
 -- a challenge that is written: its counter, and its MAC in hexadecimal digits
 unfoldable pub challenge_line : ℕ → List ℕ → List ℕ

@@ -1,20 +1,19 @@
 //! The command `challenge`: a file that asks a device for one measurement.
 
-ghost use Rattle.std.specs.Prelude.{◌≡◌, ◌≤◌, All, length, IfOk, IfErr, string_bytes};
+ghost use Rattle.std.specs.Prelude.{◌≡◌, ◌≤◌, length, Ok, IfOk, string_bytes};
 ghost use Rattle.hmac256.specs.Hmac.{hmac};
 ghost use Rattle.att_base.specs.Files.{IsName};
 ghost use Rattle.challenge.specs.Challenges.{IsChallenge};
 ghost use Rattle.challenge.specs.Bytes.{challenge_bytes, challenge_head};
-ghost use Rattle.plans.specs.Comes.{Comes, IsBlamed};
-ghost use Rattle.plans.specs.Written.{IsFinal, written};
+ghost use Rattle.command_plans.specs.Answered.{Gives, Reads};
 ghost use Rattle.message_commands.specs.Lines.{challenge_line};
-ghost use Rattle.message_commands.specs.Plans.{asking, challenge_plan};
+ghost use Rattle.message_commands.specs.Plans.{challenge_plan, written_challenge};
 
 use crate::lines::challenge_line;
-use crate::reading::read_key;
 use att_base::{Files, NamedFile};
 use challenge::Challenge;
-use plans::{Output, Stop, accepted};
+use command_plans::{FileParts, Output, Parts, Planned, Stop};
+use input_files::read_key;
 use std::alloc::{AllocError, Global};
 
 /// The bytes before the MAC.
@@ -44,45 +43,39 @@ fn line_of(
 }
 
 // What is written of the challenge under this key.
-fn asking(alloc: Global, key: &[u8], challenge: &Challenge, out: &str) -> Result<Output, AllocError>
+fn challenge_output<P: Parts + Drop, B: FileParts + Drop>(
+    alloc: Global,
+    key: &[u8],
+    challenge: &Challenge,
+    out: &str,
+) -> Result<Output<P, B>, Stop>
     requires named { IsName out.now }
     requires valid { IsChallenge challenge.now }
-    ensures gives { IfOk result (λ o. written o ≡ asking key.now challenge.now out.now) }
-    ensures last { IfOk result IsFinal }
-    ensures names { IfOk result (λ o. All (λ file. file.name ≡ out.now) o.files.items) }
+    ensures { Gives (λ o. o) (Ok (written_challenge key.now challenge.now out.now)) result }
 {
     let bytes = challenge::write(challenge, key);
     let line = line_of(alloc, key, challenge, &bytes)?;
     let file = NamedFile::copied(alloc, out, &bytes)?;
     let mut files = Vec::new(alloc);
-    files.push(file)?;
-    Ok(accepted(alloc, files, line.into_bytes()))
+    let Ok(()) = files.push(Planned::whole(file)) else {
+        return Err(Stop::Memory);
+    };
+    Ok(Output::accepted(alloc, files, line.into_bytes()))
 }
 
 /// The output of `challenge`: the key is read, and the challenge under it stands in the file OUT; standard output
 /// gets its counter and its MAC. Nothing is written here, and no file is changed.
-pub fn prepare_challenge<F: Files>(
+pub fn prepare_challenge<F: Files, P: Parts + Drop, B: FileParts + Drop>(
     alloc: Global,
     files: &mut F,
     key: &str,
     challenge: &Challenge,
     out: &str,
-) -> Result<Output, Stop>
+) -> Result<Output<P, B>, Stop>
     requires named { IsName key.now × IsName out.now }
     requires valid { IsChallenge challenge.now }
-    ensures gives { Comes written result (challenge_plan key.now challenge.now out.now (F.held files.old)) }
-    ensures last { IfOk result IsFinal }
-    ensures names { IfOk result (λ o. All (λ file. file.name ≡ out.now) o.files.items) }
-    ensures blamed { IfErr result (λ stop. IsBlamed stop (F.held files.old) (F.faults files.old) (F.faults files.new)) }
-    ensures same { F.held files.new ≡ F.held files.old }
-    ensures later { F.faults files.old ≤ F.faults files.new }
+    ensures { Reads (λ o. o) (challenge_plan key.now challenge.now out.now) result (F.shows files.old) (F.shows files.new) }
 {
-    let bytes = match read_key(alloc, files, key) {
-        Ok(bytes) => bytes,
-        Err(stop) => return Err(stop),
-    };
-    match asking(alloc, &bytes, challenge, out) {
-        Ok(output) => Ok(output),
-        Err(_) => Err(Stop::Memory),
-    }
+    let bytes = read_key(alloc, files, key)?;
+    challenge_output(alloc, &bytes, challenge, out)
 }

@@ -1,15 +1,14 @@
 //! The verdicts on a report and on a note, and what is written of them.
 
-ghost use Rattle.std.specs.Prelude.{◌≡◌, [], IfOk};
+ghost use Rattle.std.specs.Prelude.{◌≡◌, IfOk};
 ghost use Rattle.std.specs.Option.{option_copied};
 ghost use Rattle.report.specs.Reports.{report_in};
 ghost use Rattle.verifier.specs.Verdicts.{Standing};
-ghost use Rattle.plans.specs.Written.{IsFinal, written};
-ghost use Rattle.message_commands.specs.Plans.{Knowledge, accepts, accepts_note, ending_of, judgement, note_judged};
+ghost use Rattle.message_commands.specs.Plans.{Knowledge, accepts, accepts_note, ending_of, judgement, verdict_on_note};
 
 use crate::lines::verdict_lines;
+use command_plans::{Ending, FileParts, Output, Parts};
 use image_set::ImageSet;
-use plans::{Ending, Output};
 use report::read_report;
 use std::alloc::{AllocError, Global};
 use verifier::{NoteVerdict, Verdict, Verifier};
@@ -50,13 +49,13 @@ fn ending_of(verdict: Verdict, note: Option<NoteVerdict>) -> Ending
 }
 
 // The verdict on the note, where the report is accepted and a note is there.
-fn note_judged(
+fn verdict_on_note(
     verifier: &Verifier<'_>,
     verdict: Verdict,
     report: &[u8],
     note: Option<&[u8]>,
 ) -> Option<NoteVerdict>
-    ensures { result ≡ note_judged verifier.now.key verdict (report_in report.now) (option_copied note.entry) }
+    ensures { result ≡ verdict_on_note verifier.now.key verdict (report_in report.now) (option_copied note.entry) }
 {
     let note = note?;
     if !accepts(verdict) {
@@ -70,26 +69,20 @@ fn note_judged(
 
 /// What is written of the verdicts on the bytes of a report, and of a note where there is one.
 #[tactic(auto, unfolding(crate::specs::Plans::judgement))]
-pub fn judgement(
+pub fn judgement<P: Parts + Drop, B: FileParts + Drop>(
     alloc: Global,
     verifier: &mut Verifier<'_>,
     set: &ImageSet,
     report: &[u8],
     note: Option<&[u8]>,
-) -> Result<Output, AllocError>
+) -> Result<Output<P, B>, AllocError>
     requires { set.now.shape ≡ verifier.old.shape }
-    ensures gives { let known : Knowledge = record { standing = verifier.old; images = set.now.images } in
-        IfOk result (λ o. written o ≡ judgement known report.now (option_copied note.entry)) }
-    ensures last { IfOk result IsFinal }
-    ensures no_files { IfOk result (λ o. o.files.items ≡ []) }
+    ensures { let known : Knowledge = record { standing = verifier.old; images = set.now.images } in
+        IfOk result (λ o. o ≡ judgement known report.now (option_copied note.entry)) }
 {
     let verdict = verifier.judge(report, set);
-    let noted = note_judged(verifier, verdict, report, note);
+    let noted = verdict_on_note(verifier, verdict, report, note);
     let lines = verdict_lines(alloc, set, verdict, noted)?;
-    Ok(Output {
-        files: Vec::new(alloc),
-        out: lines.into_bytes(),
-        ending: ending_of(verdict, noted),
-        line: String::new(alloc),
-    })
+    let ending = ending_of(verdict, noted);
+    Output::ended(alloc, Vec::new(alloc), lines.into_bytes(), ending)
 }

@@ -15,7 +15,6 @@
 #![tactic(auto)]
 
 mod asking;
-mod images;
 mod judging;
 mod lines;
 mod reading;
@@ -26,7 +25,7 @@ mod worked;
 pub use asking::prepare_challenge;
 pub use verifying::prepare_verify;
 pub use words::challenge_of;
-pub use worked::{challenges_of_words, lines_of_verdicts, numbers_of_words};
+pub use worked::{challenges_of_words, lines_of_verdicts};
 
 #[cfg(test)]
 mod tests;

@@ -1,40 +1,12 @@
-//! The lines that say what is bad, and those that are printed.
+//! The lines that are printed.
 
 ghost use Rattle.std.specs.Prelude.{◌≡◌, ◌<◌, ℕ, length, IfOk, string_bytes};
 ghost use Rattle.verifier.specs.declared.verdicts.Verdict.TheVariants as verdicts;
-ghost use Rattle.message_commands.specs.Lines.{challenge_fault_line, challenge_line, image_line, key_line, note_line, verdict_line, verdict_lines, verifier_line};
+ghost use Rattle.message_commands.specs.Lines.{challenge_line, note_line, verdict_line, verdict_lines};
 
 use image_set::ImageSet;
 use std::alloc::{AllocError, Global};
 use verifier::{NoteVerdict, Verdict};
-
-#[tactic(auto, unfolding(crate::specs::Lines::key_line))]
-pub fn key_line(alloc: Global, name: &str) -> Result<String, AllocError>
-    ensures { IfOk result (λ line. string_bytes line ≡ key_line name.now) }
-{
-    format!(in alloc; "attest: bad input {name} key 1\n")
-}
-
-#[tactic(auto, unfolding(crate::specs::Lines::verifier_line))]
-pub fn verifier_line(alloc: Global, name: &str, rule: u32) -> Result<String, AllocError>
-    ensures { IfOk result (λ line. string_bytes line ≡ verifier_line name.now rule) }
-{
-    format!(in alloc; "attest: bad input {name} verifier {rule}\n")
-}
-
-#[tactic(auto, unfolding(crate::specs::Lines::challenge_fault_line))]
-pub fn challenge_fault_line(alloc: Global, name: &str, fault: u32) -> Result<String, AllocError>
-    ensures { IfOk result (λ line. string_bytes line ≡ challenge_fault_line name.now fault) }
-{
-    format!(in alloc; "attest: bad input {name} challenge {fault}\n")
-}
-
-#[tactic(auto, unfolding(crate::specs::Lines::image_line))]
-pub fn image_line(alloc: Global, name: &str, fault: u32) -> Result<String, AllocError>
-    ensures { IfOk result (λ line. string_bytes line ≡ image_line name.now fault) }
-{
-    format!(in alloc; "attest: bad input {name} image {fault}\n")
-}
 
 #[tactic(auto, unfolding(crate::specs::Lines::challenge_line))]
 pub fn challenge_line(alloc: Global, counter: u64, mac: &[u8]) -> Result<String, AllocError>

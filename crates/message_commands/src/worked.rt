@@ -1,27 +1,16 @@
 //! The definitions, computed on a few words and verdicts: each contract here is read beside `specs/`.
 
-ghost use Rattle.std.specs.Prelude.{◌≡◌, ◌-◌, ◌^◌, List, [], ◌∷◌, codes, Some, None};
+ghost use Rattle.std.specs.Prelude.{◌≡◌, [], ◌∷◌, codes, Some, None};
 ghost use Rattle.history.specs.declared.events.Discipline.{Discipline};
 ghost use Rattle.history.specs.declared.events.Discipline.TheVariants.{Dec, IncExt};
 ghost use Rattle.challenge.specs.declared.Challenge.{Challenge};
 ghost use Rattle.image_set.specs.declared.Image.{Image};
 ghost use Rattle.verifier.specs.declared.verdicts.Verdict.TheVariants as verdicts;
 ghost use Rattle.verifier.specs.declared.verdicts.NoteVerdict.TheVariants as notes;
-ghost use Rattle.plans.specs.declared.output.Ending.TheVariants.{Accepted, Refused};
+ghost use Rattle.command_plans.specs.declared.output.Ending.TheVariants.{Accepted, Refused};
 ghost use Rattle.message_commands.specs.Lines.{verdict_lines};
 ghost use Rattle.message_commands.specs.Plans.{ending_of};
-ghost use Rattle.message_commands.specs.Words.{if_valid, number_of};
-
-/// Numbers of the command line, and what isn't one.
-#[tactic(auto, unfolding(crate::specs::Words::number_of, text_forms::specs::Numbers::number_of))]
-pub fn numbers_of_words()
-    ensures zero { number_of (codes "0") ≡ Some 0 }
-    ensures most { number_of (codes "18446744073709551615") ≡ Some (2 ^ 64 - 1) }
-    ensures more { number_of (codes "18446744073709551616") ≡ None }
-    ensures padded { number_of (codes "07") ≡ None }
-    ensures signed { number_of (codes "+7") ≡ None }
-    ensures nothing { number_of [] ≡ None }
-{}
+ghost use Rattle.message_commands.specs.Words.{if_valid};
 
 /// Challenges that are asked for, and one that isn't valid: Dec-Lock holds nothing after End.
 pub fn challenges_of_words()

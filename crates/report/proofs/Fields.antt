@@ -33,6 +33,10 @@ pub u64_at_rest : (bytes rest : List ℕ) (p k : ℕ) → drop p bytes ≡ rest 
 unfolding u64_at
 u64_at_rest bytes rest p k e = ap (from_be_bytes w64) (sym (drop-drop k p bytes) ∙ ap (drop k) e)
 
+pub u64_here : (bytes rest : List ℕ) (p : ℕ) → drop p bytes ≡ rest → u64_at bytes p ≡ u64_at rest 0
+unfolding u64_at
+u64_here bytes rest p e = ap (from_be_bytes w64) e
+
 some_is : {A : Type 0} (x y : A) → Some x ≡ Some y → x ≡ y
 some_is x y e = cc
 

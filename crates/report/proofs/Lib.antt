@@ -1,3 +1,4 @@
 pub mod Fields
 pub mod NoteBytes
-pub mod ReportBytes
+pub mod Reading
+pub mod Writing

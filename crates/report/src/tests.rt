@@ -1,342 +1,159 @@
-ghost use Rattle.std.specs.Prelude.{◌+◌, ◌≤◌, length};
+//! Reports and notes made by another implementation under the key `key`, and bytes that are none.
 
 use super::*;
+use lock_plan::{Range, Ranges};
 use std::alloc::Global;
 use std::process::Abort;
 use std::test::Fail;
 
-// All-Lock, counter 7, a nonce that counts up from 0, four blocks of 16 zero bytes at 0x80000000, Start at 1 and End
-// at 6: with one entry less they had no room. The tag under `key` is from another implementation. One byte more
-// follows.
-const REPORT_AND_ONE: &[u8] =
-    b"\x54\x4d\x52\x31\x01\x00\x00\x00\x00\x00\x00\x00\x00\x00\x00\x07\x00\x01\x02\x03\x04\x05\x06\x07\x08\x09\x0a\x0b\x0c\x0d\x0e\x0f\x80\x00\x00\x00\x00\x00\x00\x10\x00\x00\x00\x00\x00\x00\x00\x04\x00\x00\x00\x00\x00\x00\x00\x01\x00\x00\x00\x00\x00\x00\x00\x06\x01\xf9\x2e\x63\x12\x2d\xaa\xa5\xac\xe2\xac\x8e\xc1\x07\x36\x12\x26\x2c\x1c\x47\x83\xe5\xe0\x50\xde\xd7\x0d\xf3\x1e\x70\xd1\xec\x00";
+// The nonce counts up from 0, and memory begins at 0x80000000 and is zeros, in blocks of 16 bytes.
+// All-Lock, counter 7, blocks 0 to 3, places 1 and 6.
+const ONE: &str =
+    "544d5231010000000000000000000007000102030405060708090a0b0c0d0e0f800000000000001000000000000000040000000000000001000000000000000601f92e63122daaa5ace2ac8ec1073612262c1c4783e5e050ded70df31e70d1ec";
 
-// The note of a pass with counter 11, Start at 1, End at 6 and Release at 9. The tag is from another implementation.
-// One byte more follows.
-const NOTE_AND_ONE: &[u8] =
-    b"\x54\x4d\x4e\x31\x00\x00\x00\x00\x00\x00\x00\x00\x00\x00\x00\x0b\x00\x00\x00\x00\x00\x00\x00\x01\x00\x00\x00\x00\x00\x00\x00\x06\x00\x00\x00\x00\x00\x00\x00\x09\x48\x75\xfc\xbd\xe6\x7b\x4b\x67\x0f\x04\xf3\xda\xa0\xdc\xf7\x98\x06\xc0\x90\xeb\x63\x47\x24\x8f\xf5\x39\x92\xb9\xe8\x54\x71\x96\x00";
+// Dec-Lock, counter 1, blocks 1, 2 and 5, places 1 and 5.
+const TWO: &str =
+    "544d5232030000000000000000000001000102030405060708090a0b0c0d0e0f8000000000000010000000020000000100000002000000050000000100000000000000010000000000000005fe4e39823f710934d142ef8969ed02993785dad6383d7f0acd1eed89b62c2bb9";
 
-// The tag of the report that the note goes with.
-const NOTED_TAG: [u8; 32] =
-    *b"\x5a\xa5\x95\xa1\x2f\x2d\xec\x3a\xa0\x1b\xfb\x77\xd7\x19\x80\xdd\xb4\x6b\x63\x6d\x37\xa0\x57\xa4\x87\x68\xf8\xd6\x09\x0e\x14\xef";
+// Inc-Lock-Ext, the greatest counter, the eight blocks 0, 2 .. 14, places 2 and 11.
+const EIGHT: &str =
+    "544d523205000000ffffffffffffffff000102030405060708090a0b0c0d0e0f800000000000001000000008000000000000000100000002000000010000000400000001000000060000000100000008000000010000000a000000010000000c000000010000000e000000010000000000000002000000000000000b05483c46ac3bd0ccc461d3b77b5eaa519c4b9c0b87ebe17ab963de9b60d0a9a7";
 
-// The first `len` bytes, with `put` at a place.
-fn changed(
-    alloc: Global,
-    bytes: &[u8],
-    len: usize,
-    place: usize,
-    put: &[u8],
-) -> Result<Vec<u8>, Fail> {
-    let mut file = Vec::from_slice(alloc, bytes)?;
-    file.truncate(len);
-    for (k, byte) in put.iter().enumerate() {
-        if let Some(old) = file.get_mut(place.saturating_add(k)) {
-            *old = *byte;
+// The note on an All-Lock-Ext pass with counter 11 and places 1, 6 and 9.
+const NOTE: &str =
+    "544d4e3100000000000000000000000b0000000000000001000000000000000600000000000000094875fcbde67b4b670f04f3daa0dcf79806c090eb6347248ff53992b9e8547196";
+
+// The bytes of these digits, with other digits put from a place on.
+fn changed(alloc: Global, digits: &str, place: usize, put: &str) -> Result<Vec<u8>, Fail> {
+    let mut bytes = hex::decode(alloc, digits.as_bytes()).map_err(|_| "no digits")?;
+    let others = hex::decode(alloc, put.as_bytes()).map_err(|_| "no digits")?;
+    for (byte, other) in bytes.iter_mut().skip(place).zip(&others) {
+        *byte = *other;
+    }
+    Ok(bytes)
+}
+
+// These digits are a report's, and it is written as they are.
+fn expect_report(rt: &impl Abort, alloc: Global, digits: &str) -> Result<(), Fail> {
+    let bytes = changed(alloc, digits, 0, "")?;
+    match read_report(&bytes) {
+        Some(report) if report.is_valid() => {
+            assert_eq!(rt; write_report(&report).as_slice(), bytes.as_slice());
         }
-    }
-    Ok(file)
-}
-
-// Whether the bytes are those of a report; what is read is written again.
-fn is_report(rt: &impl Abort, bytes: &[u8]) -> bool {
-    match read_report(bytes) {
-        Some(report) => {
-            assert!(rt; report.is_valid() && write_report(&report).as_slice() == bytes);
-            true
-        }
-        None => false,
-    }
-}
-
-fn is_note(rt: &impl Abort, bytes: &[u8]) -> bool {
-    match read_note(bytes) {
-        Some(note) => {
-            assert!(rt; note.is_valid() && write_note(&note).as_slice() == bytes);
-            true
-        }
-        None => false,
-    }
-}
-
-#[test]
-fn a_report_and_its_fields(rt: HostRuntime) {
-    let nonce = [0, 1, 2, 3, 4, 5, 6, 7, 8, 9, 10, 11, 12, 13, 14, 15];
-    let tag =
-        *b"\x01\xf9\x2e\x63\x12\x2d\xaa\xa5\xac\xe2\xac\x8e\xc1\x07\x36\x12\x26\x2c\x1c\x47\x83\xe5\xe0\x50\xde\xd7\x0d\xf3\x1e\x70\xd1\xec";
-    let report = Report {
-        discipline: Discipline::All,
-        counter: 7,
-        nonce,
-        shape: Shape {
-            base: 0x8000_0000,
-            size: 16,
-            first: 0,
-            attested: 4,
-        },
-        start: 1,
-        end: 6,
-        tag,
-    };
-    let bytes = &REPORT_AND_ONE[..96];
-    assert!(rt; read_report(bytes) == Some(report));
-    if report.is_valid() {
-        assert_eq!(rt; write_report(&report).as_slice(), bytes);
-    }
-}
-
-// Each row is a length, what is put at which place of the report, and whether the bytes are still a report.
-fn expect_reports(
-    rt: &impl Abort,
-    alloc: Global,
-    table: &[(usize, usize, &[u8], bool)],
-) -> Result<(), Fail> {
-    for (len, place, put, expected) in table {
-        let bytes = changed(alloc, REPORT_AND_ONE, *len, *place, put)?;
-        assert_eq!(rt; is_report(rt, &bytes), *expected);
+        _ => panic!(rt; "no report"),
     }
     Ok(())
 }
 
 #[test]
-fn heads_of_reports(rt: HostRuntime) -> Result<(), Fail> {
-    let table: [(usize, usize, &[u8], bool); 15] = [
-        (96, 0, b"", true),
-        (95, 0, b"", false),
-        (97, 0, b"", false),
-        (48, 0, b"", false),
-        (0, 0, b"", false),
-        (96, 0, b"\x53", false),
-        (96, 2, b"\x4e", false),
-        (96, 3, b"\x32", false),
-        (96, 4, b"\x00", false),
-        (96, 4, b"\x05", true),
-        (96, 4, b"\x06", false),
-        (96, 5, b"\x01", false),
-        (96, 6, b"\x01", false),
-        (96, 7, b"\x01", false),
-        (
-            96,
-            8,
-            b"\xff\xff\xff\xff\xff\xff\xff\xff\xff\xff\xff\xff\xff\xff\xff\xff\xff\xff\xff\xff\xff\xff\xff\xff",
-            true,
-        ),
-    ];
-    expect_reports(&rt, rt.alloc(), &table)
-}
-
-// Each bound on the memory that ends with the last attested block, at its edge.
-#[test]
-fn shapes_of_reports(rt: HostRuntime) -> Result<(), Fail> {
-    let table: [(usize, usize, &[u8], bool); 21] = [
-        (96, 32, b"\x80\x00\x00\x08", false),
-        (96, 32, b"\x80\x00\x00\x10", true),
-        (96, 32, b"\xff\xff\xff\xc0", true),
-        (96, 32, b"\xff\xff\xff\xd0", false),
-        (96, 32, b"\x00\x00\x00\x00", true),
-        (96, 36, b"\x00\x00\x00\x00", false),
-        (96, 36, b"\x00\x00\x00\x08", false),
-        (96, 36, b"\x00\x00\x00\x18", false),
-        (96, 36, b"\x00\x00\x00\x20", true),
-        (96, 36, b"\x00\x01\x00\x00", true),
-        (96, 36, b"\x00\x02\x00\x00", false),
-        (96, 36, b"\x00\x01\x00\x00\x00\x00\x00\x0c", true),
-        (96, 36, b"\x00\x01\x00\x00\x00\x00\x00\x0d", false),
-        (96, 36, b"\x00\x00\x01\x00\x00\x00\x0f\xfc", true),
-        (96, 36, b"\x00\x00\x00\x10\x00\x00\x0f\xfd", false),
-        (96, 40, b"\xff\xff\xff\xff", false),
-        (96, 40, b"\xff\xff\xff\xfc", false),
-        (96, 44, b"\x00\x00\x00\x00", false),
-        (96, 44, b"\x00\x00\x00\x05", false),
-        (96, 44, b"\x00\x00\x00\x03", true),
-        (96, 44, b"\xff\xff\xff\xff", false),
-    ];
-    expect_reports(&rt, rt.alloc(), &table)
-}
-
-// Start and End at their bounds. A reader whose sums wrap would take the last report but two.
-#[test]
-fn places_of_reports(rt: HostRuntime) -> Result<(), Fail> {
-    let table: [(usize, usize, &[u8], bool); 11] = [
-        (
-            96,
-            48,
-            b"\x00\x00\x00\x00\x00\x00\x00\x00\x00\x00\x00\x00\x00\x00\x00\x06",
-            false,
-        ),
-        (
-            96,
-            48,
-            b"\x00\x00\x00\x00\x00\x00\x00\x02\x00\x00\x00\x00\x00\x00\x00\x06",
-            false,
-        ),
-        (
-            96,
-            48,
-            b"\x00\x00\x00\x00\x00\x00\x00\x02\x00\x00\x00\x00\x00\x00\x00\x07",
-            true,
-        ),
-        (
-            96,
-            48,
-            b"\x00\x00\x00\x00\x00\x00\x00\x01\x00\x00\x00\x00\x00\x00\x00\x05",
-            false,
-        ),
-        (
-            96,
-            48,
-            b"\x00\x00\x00\x00\x00\x00\x00\x01\x00\x00\x00\x00\x00\x00\x00\x07",
-            true,
-        ),
-        (
-            96,
-            48,
-            b"\x00\x00\x00\x00\x00\x00\x00\x06\x00\x00\x00\x00\x00\x00\x00\x01",
-            false,
-        ),
-        (
-            96,
-            48,
-            b"\xff\xff\xff\xff\xff\xff\xff\xfa\xff\xff\xff\xff\xff\xff\xff\xff",
-            true,
-        ),
-        (
-            96,
-            48,
-            b"\xff\xff\xff\xff\xff\xff\xff\xfb\xff\xff\xff\xff\xff\xff\xff\xff",
-            false,
-        ),
-        (
-            96,
-            48,
-            b"\xff\xff\xff\xff\xff\xff\xff\xff\x00\x00\x00\x00\x00\x00\x00\x04",
-            false,
-        ),
-        (
-            96,
-            48,
-            b"\xff\xff\xff\xff\xff\xff\xff\xff\xff\xff\xff\xff\xff\xff\xff\xff",
-            false,
-        ),
-        (
-            96,
-            64,
-            b"\x00\x00\x00\x00\x00\x00\x00\x00\x00\x00\x00\x00\x00\x00\x00\x00\x00\x00\x00\x00\x00\x00\x00\x00\x00\x00\x00\x00\x00\x00\x00\x00",
-            true,
-        ),
-    ];
-    expect_reports(&rt, rt.alloc(), &table)
+fn reports_of_both_versions(rt: HostRuntime) -> Result<(), Fail> {
+    expect_report(&rt, rt.alloc(), ONE)?;
+    expect_report(&rt, rt.alloc(), TWO)?;
+    expect_report(&rt, rt.alloc(), EIGHT)
 }
 
 #[test]
-fn a_note_and_its_fields(rt: HostRuntime) {
-    let found = read_note(&NOTE_AND_ONE[..72]);
-    assert!(rt;
-        matches!(found, Some(note)
-        if note.counter == 11 && note.start == 1 && note.end == 6 && note.release == 9)
-    );
+fn fields_of_a_report(rt: HostRuntime) -> Result<(), Fail> {
+    let first = Range {
+        first: 1,
+        attested: 2,
+    };
+    let second = Range {
+        first: 5,
+        attested: 1,
+    };
+    let Some(ranges) = Ranges::new(&[first, second]) else {
+        panic!(rt; "no ranges")
+    };
+    let mut tag = [0u8; 32];
+    hex::decode_to_slice(TWO[152..].as_bytes(), &mut tag).map_err(|_| "no digits")?;
     let report = Report {
-        discipline: Discipline::AllExt,
-        counter: 11,
-        nonce: [0; 16],
+        discipline: Discipline::Dec,
+        counter: 1,
+        nonce: [0, 1, 2, 3, 4, 5, 6, 7, 8, 9, 10, 11, 12, 13, 14, 15],
         shape: Shape {
             base: 0x8000_0000,
             size: 16,
-            first: 0,
-            attested: 4,
+            ranges,
         },
         start: 1,
-        end: 6,
-        tag: NOTED_TAG,
+        end: 5,
+        tag,
     };
-    assert!(rt; found == Some(note_on(b"key", &report, 9)));
+    let bytes = changed(rt.alloc(), TWO, 0, "")?;
+    assert!(rt; read_report(&bytes) == Some(report));
+    Ok(())
+}
+
+// Whether the report is still one with these digits put at this place.
+fn expect_change(
+    rt: &impl Abort,
+    alloc: Global,
+    digits: &str,
+    place: usize,
+    put: &str,
+    is: bool,
+) -> Result<(), Fail> {
+    let bytes = changed(alloc, digits, place, put)?;
+    assert_eq!(rt; read_report(&bytes).is_some(), is, "{place} {put}");
+    Ok(())
 }
 
 #[test]
-fn what_is_no_note(rt: HostRuntime) -> Result<(), Fail> {
-    let table: [(usize, usize, &[u8], bool); 23] = [
-        (72, 0, b"", true),
-        (71, 0, b"", false),
-        (73, 0, b"", false),
-        (40, 0, b"", false),
-        (0, 0, b"", false),
-        (72, 0, b"\x53", false),
-        (72, 2, b"\x52", false),
-        (72, 4, b"\x01", false),
-        (72, 5, b"\x01", false),
-        (72, 6, b"\x01", false),
-        (72, 7, b"\x01", false),
-        (72, 8, b"\xff\xff\xff\xff\xff\xff\xff\xff", true),
-        (
-            72,
-            16,
-            b"\x00\x00\x00\x00\x00\x00\x00\x00\x00\x00\x00\x00\x00\x00\x00\x06\x00\x00\x00\x00\x00\x00\x00\x09",
-            false,
-        ),
-        (
-            72,
-            16,
-            b"\x00\x00\x00\x00\x00\x00\x00\x05\x00\x00\x00\x00\x00\x00\x00\x06\x00\x00\x00\x00\x00\x00\x00\x07",
-            true,
-        ),
-        (
-            72,
-            16,
-            b"\x00\x00\x00\x00\x00\x00\x00\x06\x00\x00\x00\x00\x00\x00\x00\x06\x00\x00\x00\x00\x00\x00\x00\x09",
-            false,
-        ),
-        (
-            72,
-            16,
-            b"\x00\x00\x00\x00\x00\x00\x00\x07\x00\x00\x00\x00\x00\x00\x00\x06\x00\x00\x00\x00\x00\x00\x00\x09",
-            false,
-        ),
-        (
-            72,
-            16,
-            b"\x00\x00\x00\x00\x00\x00\x00\x01\x00\x00\x00\x00\x00\x00\x00\x09\x00\x00\x00\x00\x00\x00\x00\x09",
-            false,
-        ),
-        (
-            72,
-            16,
-            b"\x00\x00\x00\x00\x00\x00\x00\x01\x00\x00\x00\x00\x00\x00\x00\x09\x00\x00\x00\x00\x00\x00\x00\x08",
-            false,
-        ),
-        (
-            72,
-            16,
-            b"\x00\x00\x00\x00\x00\x00\x00\x01\x00\x00\x00\x00\x00\x00\x00\x02\x00\x00\x00\x00\x00\x00\x00\x03",
-            true,
-        ),
-        (
-            72,
-            16,
-            b"\xff\xff\xff\xff\xff\xff\xff\xfd\xff\xff\xff\xff\xff\xff\xff\xfe\xff\xff\xff\xff\xff\xff\xff\xff",
-            true,
-        ),
-        (
-            72,
-            16,
-            b"\xff\xff\xff\xff\xff\xff\xff\xfe\xff\xff\xff\xff\xff\xff\xff\xff\xff\xff\xff\xff\xff\xff\xff\xff",
-            false,
-        ),
-        (
-            72,
-            16,
-            b"\xff\xff\xff\xff\xff\xff\xff\xff\x00\x00\x00\x00\x00\x00\x00\x01\x00\x00\x00\x00\x00\x00\x00\x02",
-            false,
-        ),
-        (
-            72,
-            40,
-            b"\x00\x00\x00\x00\x00\x00\x00\x00\x00\x00\x00\x00\x00\x00\x00\x00\x00\x00\x00\x00\x00\x00\x00\x00\x00\x00\x00\x00\x00\x00\x00\x00",
-            true,
-        ),
-    ];
-    for (len, place, put, expected) in table {
-        let bytes = changed(rt.alloc(), NOTE_AND_ONE, len, place, put)?;
-        assert_eq!(rt; is_note(&rt, &bytes), expected);
+fn bounds_of_version_1(rt: HostRuntime) -> Result<(), Fail> {
+    for (place, put, is) in [
+        (3usize, "32", false),
+        (4, "06", false),
+        (4, "05", true),
+        (7, "01", false),
+        (32, "fffffff0", false),
+        (36, "00000018", false),
+        (44, "00000000", false),
+        (44, "00000005", false),
+        (48, "fffffffffffffffbffffffffffffffff", false),
+        (48, "fffffffffffffffaffffffffffffffff", true),
+    ] {
+        expect_change(&rt, rt.alloc(), ONE, place, put, is)?;
+    }
+    Ok(())
+}
+
+// Ranges that touch, none, too many, in the other order; one range is written as version 1 alone.
+#[test]
+fn bounds_of_version_2(rt: HostRuntime) -> Result<(), Fail> {
+    for (place, put, is) in [
+        (3usize, "31", false),
+        (40, "00000001", false),
+        (40, "00000003", false),
+        (48, "00000001", true),
+        (48, "00000004", false),
+        (52, "00000001", false),
+        (56, "00000000", false),
+        (75, "04", false),
+    ] {
+        expect_change(&rt, rt.alloc(), TWO, place, put, is)?;
+    }
+    let one_range =
+        "544d5232030000000000000000000001000102030405060708090a0b0c0d0e0f8000000000000010000000010000000100000002000000000000000100000000000000050000000000000000000000000000000000000000000000000000000000000000";
+    expect_change(&rt, rt.alloc(), one_range, 0, "", false)?;
+    expect_change(&rt, rt.alloc(), &EIGHT[..310], 0, "", false)?;
+    expect_change(&rt, rt.alloc(), &ONE[2..], 0, "54", false)
+}
+
+#[test]
+fn notes(rt: HostRuntime) -> Result<(), Fail> {
+    let bytes = changed(rt.alloc(), NOTE, 0, "")?;
+    let note = read_note(&bytes).ok_or("no note")?;
+    assert_eq!(rt;
+        (note.counter, note.start, note.end, note.release),
+        (11, 1, 6, 9)
+    );
+    if note.is_valid() {
+        assert_eq!(rt; write_note(&note).as_slice(), bytes.as_slice());
+    }
+    for (place, put) in [(0usize, "53"), (7, "01"), (23, "06"), (31, "09")] {
+        let bytes = changed(rt.alloc(), NOTE, place, put)?;
+        assert!(rt; read_note(&bytes).is_none(), "{place} {put}");
     }
     Ok(())
 }

@@ -7,8 +7,8 @@ use Rattle.std.specs.Option.{is_some}
 use Rattle.asm_lines.specs.declared.kinds.Kind.{Kind}
 use Rattle.asm_lines.specs.declared.kinds.Kind.TheVariants as kinds
 use Rattle.asm_lines.specs.Kinds.{both}
-use Rattle.asm_lines.specs.Operands.{Said, Label, Number, operands_of, parts_of, register_at, number_at, indexed_at, label_at, value_at}
-use Rattle.asm_lines.specs.Cuts.{Words}
+use Rattle.asm_lines.specs.Operands.{Said, Label, Number, operands_of, operand_parts, register_operand, number_operand, indexed_operand, label_operand, value_operand}
+use Rattle.asm_lines.specs.Cuts.{StatementWords}
 use Rattle.asm_statements.specs.declared.forms.Cell.{Cell}
 use Rattle.asm_statements.specs.declared.forms.Form.{Form}
 use Rattle.asm_statements.specs.declared.forms.Form.TheVariants as forms
@@ -18,8 +18,9 @@ use Rattle.asm_statements.specs.declared.forms.Binary.{Binary}
 use Rattle.asm_statements.specs.declared.forms.Binary.TheVariants as binary
 use Rattle.asm_statements.specs.declared.forms.Ternary.{Ternary}
 use Rattle.asm_statements.specs.declared.forms.Ternary.TheVariants as ternary
-use Rattle.asm_statements.specs.Forms.{form_of}
-use Rattle.asm_statements.specs.Orders.{◌>>=◌, Order, Plain, LoadWide, Begin, below, coded, jump, branch, register_and_upper, with_one, with_two, with_three, with_cells, cells_unless, first_fault, if_none, if_one, if_two, if_three, ordered, order_unless, order_in}
+use Rattle.asm_statements.specs.Forms.{statement_form}
+use Rattle.asm_statements.specs.Orders.{Order, Plain, LoadWide, Begin, below, coded, jump, branch, register_and_upper, with_one, with_two, with_three, with_cells, cells_unless, first_cell_fault, if_none, if_one, if_two, if_three, ordered, order_unless, order_in}
+use Rattle.sequencing.specs.Results.{◌>>=◌}
 
 abbrev pub IsInMemory : Order → Type 0
 IsInMemory (Begin address) = address < 2 ^ 32
@@ -66,31 +67,32 @@ loaded rd number false x value = tt
 
 safe_one : (form : Unary) (a : List ℕ) → Safe (with_one form a)
 unfolding with_one
-safe_one unary.J a = after (value_at a) _ (λ said. safe_jump 0 said)
-safe_one unary.Jr a = after (register_at a) _ (λ rs. tt)
-safe_one unary.Segment a = after (number_at a) _ (λ number. after_if (below (2 ^ 32) number) (λ n. n < 2 ^ 32) _ (below_limit (2 ^ 32) number) (λ address small. small))
-safe_one unary.Entry a = after (label_at a) _ (λ name. tt)
-safe_one unary.Space a = after (number_at a) _ (λ number. after (below 1048577 number) _ (λ count. tt))
+safe_one unary.J a = after (value_operand a) _ (λ said. safe_jump 0 said)
+safe_one unary.Jr a = after (register_operand a) _ (λ rs. tt)
+safe_one unary.Segment a = after (number_operand a) _ (λ number. after_if (below (2 ^ 32) number) (λ n. n < 2 ^ 32) _ (below_limit (2 ^ 32) number) (λ address small. small))
+safe_one unary.Entry a = after (label_operand a) _ (λ name. tt)
+safe_one unary.Space a = after (number_operand a) _ (λ number. after (below 1048577 number) _ (λ count. tt))
 
 safe_two : (form : Binary) (a b : List ℕ) → Safe (with_two form a b)
 unfolding with_two
 safe_two binary.Lui a b = after (register_and_upper a b) _ (λ said. tt)
 safe_two binary.Auipc a b = after (register_and_upper a b) _ (λ said. tt)
-safe_two binary.Jal a b = after (both (register_at a) (value_at b)) _ (λ said. safe_jump said.0 said.1)
-safe_two binary.Jalr a b = after (both (register_at a) (indexed_at b)) _ (λ said. safe_coded _)
-safe_two (binary.Load op) a b = after (both (register_at a) (indexed_at b)) _ (λ said. safe_coded _)
-safe_two (binary.Store op) a b = after (both (register_at a) (indexed_at b)) _ (λ said. safe_coded _)
-safe_two binary.Mv a b = after (both (register_at a) (register_at b)) _ (λ said. tt)
-safe_two binary.Li a b = after (both (register_at a) (number_at b)) _ (λ said. loaded said.0 said.1 (is_imm12 said.1) _ _)
-safe_two binary.La a b = after (both (register_at a) (label_at b)) _ (λ said. tt)
-safe_two (binary.BranchZero op) a b = after (both (register_at a) (value_at b)) _ (λ said. safe_branch op said.0 0 said.1)
+safe_two binary.Jal a b = after (both (register_operand a) (value_operand b)) _ (λ said. safe_jump said.0 said.1)
+safe_two binary.Jalr a b = after (both (register_operand a) (indexed_operand b)) _ (λ said. safe_coded _)
+safe_two (binary.Load op) a b = after (both (register_operand a) (indexed_operand b)) _ (λ said. safe_coded _)
+safe_two (binary.Store op) a b = after (both (register_operand a) (indexed_operand b)) _ (λ said. safe_coded _)
+safe_two binary.Mv a b = after (both (register_operand a) (register_operand b)) _ (λ said. tt)
+safe_two binary.Li a b = after (both (register_operand a) (number_operand b)) _ (λ said. loaded said.0 said.1 (is_imm12 said.1) _ _)
+safe_two binary.La a b = after (both (register_operand a) (label_operand b)) _ (λ said. tt)
+safe_two (binary.BranchZero op) a b = after (both (register_operand a) (value_operand b)) _ (λ said. safe_branch op said.0 0 said.1)
 
 safe_three : (form : Ternary) (a b c : List ℕ) → Safe (with_three form a b c)
 unfolding with_three
-safe_three (ternary.Branch op) a b c = after (both (both (register_at a) (register_at b)) (value_at c)) _ (λ said. safe_branch op said.0.0 said.0.1 said.1)
-safe_three (ternary.Imm op) a b c = after (both (both (register_at a) (register_at b)) (number_at c)) _ (λ said. safe_coded _)
-safe_three (ternary.Shift op) a b c = after (both (both (register_at a) (register_at b)) (number_at c)) _ (λ said. after (below 32 said.1) _ (λ amount. tt))
-safe_three (ternary.Reg op) a b c = after (both (both (register_at a) (register_at b)) (register_at c)) _ (λ said. tt)
+safe_three (ternary.Branch op) a b c = after (both (both (register_operand a) (register_operand b)) (value_operand c)) _ (λ said. safe_branch op said.0.0 said.0.1 said.1)
+safe_three (ternary.Imm op) a b c = after (both (both (register_operand a) (register_operand b)) (number_operand c)) _ (λ said. safe_coded _)
+safe_three (ternary.Shift op) a b c = after (both (both (register_operand a) (register_operand b)) (number_operand c)) _ (λ said. after (below 32 said.1) _ (λ amount. tt))
+safe_three (ternary.Reg op) a b c = after (both (both (register_operand a) (register_operand b)) (register_operand c)) _ (λ said. tt)
+safe_three (ternary.Mul op) a b c = after (both (both (register_operand a) (register_operand b)) (register_operand c)) _ (λ said. tt)
 
 safe_none : (i : Instr) (parts : List (List ℕ)) → Safe (if_none i parts)
 safe_none i [] = tt
@@ -124,7 +126,7 @@ safe_some false reading h = h
 
 safe_cells : (cell : Cell) (text : List ℕ) → Safe (with_cells cell text)
 unfolding with_cells
-safe_cells cell text = safe_some (length text == 0) _ (safe_unless cell text (first_fault cell (parts_of text)))
+safe_cells cell text = safe_some (length text == 0) _ (safe_unless cell text (first_cell_fault cell (operand_parts text)))
 
 safe_ordered : (form : Form) (text : List ℕ) → Safe (ordered form text)
 safe_ordered (forms.Bare i) text = safe_none i (operands_of text)
@@ -137,6 +139,6 @@ safe_form : (form : Option Form) (text : List ℕ) → Safe (order_unless form t
 safe_form None text = tt
 safe_form (Some form) text = safe_ordered form text
 
-pub order_in_memory : (words : Words) → IfOk (order_in words) IsInMemory
+pub order_in_memory : (words : StatementWords) → IfOk (order_in words) IsInMemory
 unfolding order_in
-order_in_memory words = safe_form (form_of words.mnemonic) words.operands
+order_in_memory words = safe_form (statement_form words.mnemonic) words.operands

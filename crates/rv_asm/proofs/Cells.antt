@@ -2,7 +2,8 @@
 use Rattle.std.proofs.Common.{◌≡◌, ℕ, List, [], ◌∷◌, ◌++◌, append_assoc, Result, Ok, Err, refl, ap, sym, ◌∙◌}
 use Rattle.asm_lines.specs.declared.kinds.Kind.{Kind}
 use Rattle.asm_statements.specs.declared.forms.Cell.{Cell}
-use Rattle.rv_asm.specs.Gives.{onto, ◌>>=◌}
+use Rattle.rv_asm.specs.Gives.{onto}
+use Rattle.sequencing.specs.Results.{◌>>=◌}
 use Rattle.rv_asm.specs.Labels.{Addresses}
 use Rattle.rv_asm.specs.Coded.{cell_bytes, cells_bytes}
 

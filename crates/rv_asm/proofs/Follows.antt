@@ -1,16 +1,15 @@
 -- The second pass's segments are those that the first pass has counted.
-use Rattle.std.proofs.Common.{◌≡◌, ◌==◌, ℕ, ◌+◌, ◌^◌, ◌≤◌, Bool, true, false, ◌&&◌, not, ◌||◌, ◌%◌, nat_lt, nat_le, if◌then◌else◌, List, [], ◌∷◌, ◌++◌, length, length-append, Option, Some, None, Ok, Err, All, refl, sym, ap, ap₂, subst, ◌∙◌, arith, leb-true, eqb-true}
+use Rattle.std.proofs.Common.{◌≡◌, ◌==◌, ℕ, ◌+◌, ◌^◌, ◌≤◌, Bool, true, false, ◌&&◌, not, ◌||◌, ◌%◌, nat_le, if◌then◌else◌, List, [], ◌∷◌, ◌++◌, length, length-append, Option, Some, None, Ok, Err, All, refl, sym, ap, ap₂, subst, ◌∙◌, arith, leb-true, eqb-true}
 use Rattle.std.proofs.lemmas.Bool.{and_parts}
 use Rattle.std.proofs.lemmas.List.{length_push, take_at}
 use Rattle.std.proofs.lemmas.List.Sums.{sum_by_push}
 use Rattle.std.proofs.lemmas.List.Elements.{All-nil, All-push, All-take, All-contains, Contains-push}
-use Rattle.program.specs.declared.Program.{Program}
-use Rattle.program.specs.declared.Segment.{Segment}
-use Rattle.program.specs.Writable.{total_size}
-use Rattle.asm_lines.specs.declared.kinds.Kind.TheVariants as kinds
+use Rattle.executable.specs.declared.Program.{Program}
+use Rattle.executable.specs.declared.Segment.{Segment}
+use Rattle.executable.specs.Writable.{total_size}
 use Rattle.asm_statements.specs.Orders.{Order}
-use Rattle.rv_asm.specs.Labels.{Addresses, with_address}
-use Rattle.rv_asm.specs.First.{Place, start, label_here, with_label, has_room, end_of, bytes_to, with_bytes}
+use Rattle.rv_asm.specs.Labels.{Addresses}
+use Rattle.rv_asm.specs.First.{Place, start, label_address, label_here, with_label, has_room, end_of, bytes_to, with_bytes}
 use Rattle.rv_asm.specs.Coded.{bytes_of}
 use Rattle.rv_asm.specs.Second.{with_last, grown_by}
 use Rattle.rv_asm.proofs.Sizes.{ok_same, no_ok, bound}
@@ -66,12 +65,13 @@ some_segment : (program : Program) (here : Option Segment) (address : ℕ) → I
 some_segment program None address h = absurd h
 some_segment program (Some s) address h = let more = length_push program.segments s in omega (arith, more)
 
-label_at : (labels : Addresses) (p q : Place) (name : List ℕ) (next : Option ℕ) (program : Program) (here : Option Segment) → p.next ≡ next → Follows labels p (with_last program here).segments here → label_here p name next ≡ Ok q → Follows labels q (with_last program here).segments here
-label_at labels p q name None program here e f h = absurd (no_ok h)
-label_at labels p q name (Some address) program here e f h =
-    let same = chosen (nat_lt address (2 ^ 32)) (record p { labels = with_address p.labels name address }) q kinds.Layout h in
-    let some : 1 ≤ p.segments = let one = some_segment program here address (subst (λ next. IsBehind next here) e f.behind) in omega (arith, one, f.count) in
-    subst (λ place. Follows labels place (with_last program here).segments here) same.1 (record {
+label_placed : (labels : Addresses) (p q : Place) (name : List ℕ) (next found : Option ℕ) (program : Program) (here : Option Segment) → p.next ≡ next → label_address next ≡ found
+    → Follows labels p (with_last program here).segments here → label_here p name found ≡ Ok q → Follows labels q (with_last program here).segments here
+label_placed labels p q name next None program here e g f h = absurd (no_ok h)
+label_placed labels p q name None (Some address) program here e g f h = cc
+label_placed labels p q name (Some at) (Some address) program here e g f h =
+    let some : 1 ≤ p.segments = let one = some_segment program here at (subst (λ next. IsBehind next here) e f.behind) in omega (arith, one, f.count) in
+    subst (λ place. Follows labels place (with_last program here).segments here) (ok_same h) (record {
       count = f.count;
       few = f.few;
       size = f.size;
@@ -84,7 +84,7 @@ label_at labels p q name (Some address) program here e f h =
 
 pub label_follows : (labels : Addresses) (p q : Place) (label : Option (List ℕ)) (program : Program) (here : Option Segment) → Follows labels p (with_last program here).segments here → with_label p label ≡ Ok q → Follows labels q (with_last program here).segments here
 label_follows labels p q None program here f h = subst (λ place. Follows labels place (with_last program here).segments here) (ok_same h) f
-label_follows labels p q (Some name) program here f h = label_at labels p q name p.next program here refl f h
+label_follows labels p q (Some name) program here f h = label_placed labels p q name p.next (label_address p.next) program here refl refl f h
 
 -- ---- bytes
 

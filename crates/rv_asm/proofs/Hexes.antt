@@ -7,9 +7,9 @@ use Rattle.std.specs.Str.Parse.{digits_value, digits_value_after}
 use Rattle.std.proofs.lemmas.Bool.{lt-ltb, cases_Bool, eqb-true}
 use Rattle.std.proofs.lemmas.Bool.Decides.{nat_tests}
 use Rattle.hex.specs.Hex.{encode_lower, encode_with, lower_digits}
-use Rattle.text_forms.specs.Numbers.{number_of, hex_of}
+use Rattle.text_readers.specs.Numbers.{digits_number, hex_of}
 use Rattle.asm_lines.specs.Numbers.{without_zeros, plain_hex, spelled}
-use Rattle.asm_lines.specs.Operands.{is_paren, number_at, value_at, number_said, Number}
+use Rattle.asm_lines.specs.Operands.{is_paren, number_operand, value_operand, number_said, Number}
 use Rattle.rv_asm.specs.Shown.{field_text}
 use Rattle.rv_asm.proofs.Plain.{plain, both_true, and_none, has_none}
 
@@ -76,18 +76,18 @@ chosen true true v h g = refl
 chosen true false v h g = cc
 chosen false small v h g = cc
 
-number_of-lowers : (ds : List ℕ) → Below16 ds → folded 0 ds < 2 ^ 64 → number_of 16 (lowers ds) ≡ Some (folded 0 ds)
-unfolding number_of
+number_of-lowers : (ds : List ℕ) → Below16 ds → folded 0 ds < 2 ^ 64 → digits_number 16 (lowers ds) ≡ Some (folded 0 ds)
+unfolding digits_number
 number_of-lowers ds h small =
     let value = digits_folded 0 ds h in
     let fits : digits_value 16 (lowers ds) < 2 ^ 64 = rw value small in
     chosen _ _ _ (lowers_digits ds h) (lt-ltb _ _ fits) ∙ ap (λ v. Some v) value
 
-zero_first : (ds : List ℕ) → number_of 16 ds ≡ number_of 16 (48 ∷ ds)
-unfolding number_of
+zero_first : (ds : List ℕ) → digits_number 16 ds ≡ digits_number 16 (48 ∷ ds)
+unfolding digits_number
 zero_first ds = refl
 
-number_of-without_zeros : (ds : List ℕ) → number_of 16 (without_zeros ds) ≡ number_of 16 ds
+number_of-without_zeros : (ds : List ℕ) → digits_number 16 (without_zeros ds) ≡ digits_number 16 ds
 number_of-without_zeros [] = refl
 number_of-without_zeros (d ∷ ds) = elim (cases_Bool (d == 48)) [
   | inl same ↦ let e : d ≡ 48 = eqb-true d 48 same in rw e (number_of-without_zeros ds ∙ zero_first ds)
@@ -104,7 +104,7 @@ length-without_zeros-le (d ∷ ds) = elim (cases_Bool (d == 48)) [
 pub same_length : (n : ℕ) → (n == n) ≡ true
 same_length n = grind (arith, nat_tests)
 
-hex_of-length : (ds : List ℕ) → hex_of (length ds) ds ≡ number_of 16 ds
+hex_of-length : (ds : List ℕ) → hex_of (length ds) ds ≡ digits_number 16 ds
 hex_of-length ds = rw (same_length (length ds)) refl
 
 plain_hex-lowers : (ds : List ℕ) → Below16 ds → 1 ≤ length (lowers ds) → length (lowers ds) ≤ 8 → folded 0 ds < 2 ^ 64 → plain_hex (lowers ds) ≡ Some (folded 0 ds)
@@ -123,9 +123,9 @@ spelled-lowers ds h some most small = rw (plain_hex-lowers ds h some most small)
 number_kind : (name last paren : Bool) → name ≡ false → paren ≡ false → (not name && not (not name && last && paren)) ≡ true
 number_kind name last paren h g = rw (h, g, and_none last) refl
 
-number_at-lowers : (ds : List ℕ) → Below16 ds → 1 ≤ length (lowers ds) → length (lowers ds) ≤ 8 → folded 0 ds < 2 ^ 64 → number_at (48 ∷ 120 ∷ lowers ds) ≡ Ok (pos (folded 0 ds))
-unfolding number_at
-number_at-lowers ds h some most small =
+number_operand-lowers : (ds : List ℕ) → Below16 ds → 1 ≤ length (lowers ds) → length (lowers ds) ≤ 8 → folded 0 ds < 2 ^ 64 → number_operand (48 ∷ 120 ∷ lowers ds) ≡ Ok (pos (folded 0 ds))
+unfolding number_operand
+number_operand-lowers ds h some most small =
     let no_paren : list_all (λ b. not (is_paren b)) (48 ∷ 120 ∷ lowers ds) ≡ true = lowers_no_paren ds h in
     rw (number_kind _ _ _ refl (has_none is_paren (48 ∷ 120 ∷ lowers ds) no_paren), spelled-lowers ds h some most small) refl
 
@@ -156,10 +156,10 @@ word_value n small = omega arith
 pub field_plain : (n : ℕ) → list_all plain (field_text n) ≡ true
 field_plain n = rw (word_lowers n) (lowers_plain (field_digits n) (field_below n))
 
-pub number_at-field : (n : ℕ) → n < 2 ^ 20 → number_at (field_text n) ≡ Ok (pos n)
-number_at-field n small =
+pub number_operand-field : (n : ℕ) → n < 2 ^ 20 → number_operand (field_text n) ≡ Ok (pos n)
+number_operand-field n small =
     let value = field_value n small in
-    rw (word_lowers n) (number_at-lowers (field_digits n) (field_below n) (omega arith) (omega arith) (rw value (omega arith)) ∙ ap (λ v. Ok (pos v)) value)
+    rw (word_lowers n) (number_operand-lowers (field_digits n) (field_below n) (omega arith) (omega arith) (rw value (omega arith)) ∙ ap (λ v. Ok (pos v)) value)
 
 abbrev pub word_digits_text : ℕ → List ℕ
 word_digits_text n = codes "0x" ++ encode_lower (to_be_bytes w32 n)
@@ -167,13 +167,13 @@ word_digits_text n = codes "0x" ++ encode_lower (to_be_bytes w32 n)
 pub word_plain : (n : ℕ) → list_all plain (word_digits_text n) ≡ true
 word_plain n = rw (word_lowers n) (lowers_plain (word_digits n) (word_below n))
 
-value_at-lowers : (ds : List ℕ) (z : ℤ) → number_at (48 ∷ 120 ∷ lowers ds) ≡ Ok z → value_at (48 ∷ 120 ∷ lowers ds) ≡ Ok (Number z)
-unfolding value_at
-value_at-lowers ds z h = rw (and_none (nat_le (length (48 ∷ 120 ∷ lowers ds)) 64)) (ap number_said h)
+value_operand-lowers : (ds : List ℕ) (z : ℤ) → number_operand (48 ∷ 120 ∷ lowers ds) ≡ Ok z → value_operand (48 ∷ 120 ∷ lowers ds) ≡ Ok (Number z)
+unfolding value_operand
+value_operand-lowers ds z h = rw (and_none (nat_le (length (48 ∷ 120 ∷ lowers ds)) 64)) (ap number_said h)
 
-pub value_at-word : (n : ℕ) → n < 2 ^ 32 → value_at (word_digits_text n) ≡ Ok (Number (pos n))
-value_at-word n small =
+pub value_operand-word : (n : ℕ) → n < 2 ^ 32 → value_operand (word_digits_text n) ≡ Ok (Number (pos n))
+value_operand-word n small =
     let value = word_value n small in
-    let number : number_at (48 ∷ 120 ∷ lowers (word_digits n)) ≡ Ok (pos n) =
-    number_at-lowers (word_digits n) (word_below n) (omega arith) (omega arith) (rw value (omega arith)) ∙ ap (λ v. Ok (pos v)) value in
-    ap (λ t. value_at (48 ∷ 120 ∷ t)) (word_lowers n) ∙ value_at-lowers (word_digits n) (pos n) number
+    let number : number_operand (48 ∷ 120 ∷ lowers (word_digits n)) ≡ Ok (pos n) =
+    number_operand-lowers (word_digits n) (word_below n) (omega arith) (omega arith) (rw value (omega arith)) ∙ ap (λ v. Ok (pos v)) value in
+    ap (λ t. value_operand (48 ∷ 120 ∷ t)) (word_lowers n) ∙ value_operand-lowers (word_digits n) (pos n) number

@@ -12,3 +12,6 @@ pub mod Sizes
 pub mod Begins
 pub mod Follows
 pub mod Writable
+pub mod Keeps
+pub mod Far
+pub mod Places

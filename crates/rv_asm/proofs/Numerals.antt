@@ -1,5 +1,5 @@
 -- Numbers and registers in decimal are read again.
-use Rattle.std.proofs.Common.{◌≡◌, ◌==◌, ℕ, ◌-◌, ◌^◌, ◌<◌, ◌≤◌, suc, zero, ℤ, pos, negsuc, neg_ℤ, Bool, cond, true, false, ◌&&◌, List, [], ◌∷◌, length, take, get_or, Some, None, refl, ap, ◌∙◌, arith, lit<, unsigned_abs}
+use Rattle.std.proofs.Common.{◌≡◌, ◌==◌, ℕ, ◌-◌, ◌^◌, ◌<◌, ◌≤◌, suc, zero, ℤ, pos, negsuc, neg_ℤ, Bool, cond, true, false, ◌&&◌, List, [], ◌∷◌, length, take, get_or, Some, None, refl, ap, ◌∙◌, arith, lit<, unsigned_abs, nat_lt}
 use Rattle.std.specs.List.{list_all}
 use Rattle.std.specs.Char.{is_digit}
 use Rattle.std.specs.Fmt.{decimal, signed_decimal}
@@ -9,8 +9,8 @@ use Rattle.std.proofs.lemmas.Str.Parse.{digit_from_value}
 use Rattle.std.proofs.lemmas.Fmt.{decimal_is_IsNumeral, length-decimal-le, decimal_digit, first_decimal}
 use Rattle.std.proofs.lemmas.Bool.{lt-ltb, le-leb}
 use Rattle.std.proofs.lemmas.Bool.Decides.{nat_tests}
-use Rattle.text_forms.specs.Numbers.{number_of, decimal_of}
-use Rattle.asm_lines.specs.Numbers.{plain_decimal, spelled, counted_register, register_of}
+use Rattle.text_readers.specs.Numbers.{plain_decimal, digits_number, decimal_of}
+use Rattle.asm_lines.specs.Numbers.{spelled, counted_register, register_of}
 use Rattle.rv_decode.specs.Words.{is_from}
 use Rattle.rv_asm.specs.Shown.{register_text}
 use Rattle.rv_asm.proofs.Plain.{plain, both_true, and_none}
@@ -30,8 +30,8 @@ chosen true true v h g = refl
 chosen true false v h g = cc
 chosen false small v h g = cc
 
-number_of-decimal : (n : ℕ) → n < 2 ^ 64 → number_of 10 (decimal n) ≡ Some n
-unfolding number_of
+number_of-decimal : (n : ℕ) → n < 2 ^ 64 → digits_number 10 (decimal n) ≡ Some n
+unfolding digits_number
 number_of-decimal n small =
     let numeral = decimal_is_IsNumeral n small in
     let fits : digits_value 10 (decimal n) < 2 ^ 64 = rw numeral.1 small in
@@ -52,7 +52,7 @@ plain_decimal-decimal (suc n) small =
     let first = first_decimal (suc n) (omega arith) small in
     let number = decimal_of-decimal (suc n) small in
     let other : (get_or (decimal (suc n)) 0 0 == 48) ≡ false = grind (arith, nat_tests, first) in
-    rw other number
+    rw (other, and_none (nat_lt 1 (length (decimal (suc n))))) number
 
 -- what plain texts begin with
 pub decimal_plain : (n : ℕ) → n < 2 ^ 64 → list_all plain (decimal n) ≡ true

@@ -1,42 +1,81 @@
--- Pieces that are appended one after the other.
-use Rattle.std.proofs.Common.{◌≡◌, ℕ, ◌+◌, ◌≤◌, suc, List, [], ◌∷◌, ◌++◌, append_assoc, length, length-append, take, drop, get_or, Bor, ◌<◌, Option, Some, None, refl, ap, sym, ◌∙◌, arith}
-use Rattle.std.proofs.lemmas.List.{take-append-le}
-use Rattle.std.proofs.lemmas.List.{take-append-drop}
-use Rattle.std.proofs.Math.Seq.{drop-cons}
-use Rattle.std.proofs.lemmas.Grind.{flat_map-append}
-use Rattle.std.specs.List.{flat_map}
-use Rattle.att_base.specs.Streams.{put_after, AppendsFront}
+-- Pieces that are appended one after the other, and how long the names are.
+use Rattle.std.proofs.Common.{◌≡◌, ℕ, ◌≤◌, List, ◌∷◌, [], ◌++◌, append_assoc, length, codes, lit≤}
+use Rattle.rv_decode.specs.declared.instruction.BranchOp.{BranchOp}
+use Rattle.rv_decode.specs.declared.instruction.BranchOp.TheVariants.{Beq, Bne, Blt, Bge, Bltu, Bgeu}
+use Rattle.rv_decode.specs.declared.instruction.LoadOp.{LoadOp}
+use Rattle.rv_decode.specs.declared.instruction.LoadOp.TheVariants.{Lb, Lh, Lw, Lbu, Lhu}
+use Rattle.rv_decode.specs.declared.instruction.StoreOp.{StoreOp}
+use Rattle.rv_decode.specs.declared.instruction.StoreOp.TheVariants.{Sb, Sh, Sw}
+use Rattle.rv_decode.specs.declared.instruction.ImmOp.{ImmOp}
+use Rattle.rv_decode.specs.declared.instruction.ImmOp.TheVariants.{Addi, Slti, Sltiu, Xori, Ori, Andi}
+use Rattle.rv_decode.specs.declared.instruction.ShiftOp.{ShiftOp}
+use Rattle.rv_decode.specs.declared.instruction.ShiftOp.TheVariants.{Slli, Srli, Srai}
+use Rattle.rv_decode.specs.declared.instruction.RegOp.{RegOp}
+use Rattle.rv_decode.specs.declared.instruction.RegOp.TheVariants.{Add, Sub, Sll, Slt, Sltu, Xor, Srl, Sra, Or, And}
+use Rattle.rv_decode.specs.declared.instruction.MulOp.{MulOp}
+use Rattle.rv_decode.specs.declared.instruction.MulOp.TheVariants.{Mul, Mulh, Mulhsu, Mulhu, Div, Divu, Rem, Remu}
+use Rattle.rv_decode.specs.Names.{branch_name, load_name, store_name, imm_name, shift_name, reg_name, mul_name}
+use Rattle.rv_asm.specs.Shown.{statement_text}
 
-pub append_nil : {xs : List ℕ} → xs ++ [] ≡ xs
-append_nil {xs = []} = refl
-append_nil {xs = x ∷ xs} = ap (λ ys. x ∷ ys) append_nil
+-- a statement of two operands, piece by piece
+pub two_joined : (old name a b : List ℕ) → ((((old ++ name) ++ codes " ") ++ a) ++ codes ", ") ++ b ≡ old ++ statement_text name (a ∷ b ∷ [])
+two_joined old name a b = simp append_assoc
 
-pub put_after-append : (held : Option (List ℕ)) (a b : List ℕ) → put_after (put_after held a) b ≡ put_after held (a ++ b)
-put_after-append None a b = refl
-put_after-append (Some held) a b = let e : (held ++ a) ++ b ≡ held ++ (a ++ b) = append_assoc held a b in ap (λ h. Some h) e
+-- and of three, behind what two of them begin with
+pub three_joined : (old name a b c : List ℕ) → (old ++ (name ++ (codes " " ++ (a ++ (codes ", " ++ (b ++ codes ", ")))))) ++ c ≡ old ++ statement_text name (a ∷ b ∷ c ∷ [])
+three_joined old name a b c = simp append_assoc
 
-take-append_more : (n : ℕ) (a b : List ℕ) → a ++ take n b ≡ take (length a + n) (a ++ b)
-take-append_more n [] b = ap (λ k. take k b) (let e : n ≡ 0 + n = omega arith in e)
-take-append_more n (x ∷ a) b =
-    let e : suc (length a + n) ≡ length (x ∷ a) + n = omega arith in
-    ap (λ l. x ∷ l) (take-append_more n a b) ∙ ap (λ k. take k (x ∷ (a ++ b))) e
+pub branch_short : (op : BranchOp) → length (branch_name op) ≤ 6
+branch_short Beq = lit≤ tt
+branch_short Bne = lit≤ tt
+branch_short Blt = lit≤ tt
+branch_short Bge = lit≤ tt
+branch_short Bltu = lit≤ tt
+branch_short Bgeu = lit≤ tt
 
-take-append_front : (n : ℕ) (a b : List ℕ) → n ≤ length a → take n a ≡ take n (a ++ b)
-take-append_front n a b h = sym (take-append-le n a b h)
+pub load_short : (op : LoadOp) → length (load_name op) ≤ 6
+load_short Lb = lit≤ tt
+load_short Lh = lit≤ tt
+load_short Lw = lit≤ tt
+load_short Lbu = lit≤ tt
+load_short Lhu = lit≤ tt
 
--- a front of a piece, behind the pieces before it, is a front of them all
-pub front_more : (old mid new : Option (List ℕ)) (before piece after all : List ℕ) → mid ≡ put_after old before → AppendsFront mid new piece
-    → all ≡ before ++ (piece ++ after) → AppendsFront old new all
-front_more old mid new before piece after all m front e = record {
-  count = length before + front.count;
-  within = let w = front.within in omega (arith, w, ap length e, length-append before (piece ++ after), length-append piece after);
-  grown = front.grown ∙ ap (λ h. put_after h (take front.count piece)) m ∙ put_after-append old before (take front.count piece)
-      ∙ ap (put_after old) (ap (λ t. before ++ t) (take-append_front front.count piece after front.within) ∙ take-append_more front.count before (piece ++ after) ∙ ap (take (length before + front.count)) (sym e));
-}
+pub store_short : (op : StoreOp) → length (store_name op) ≤ 6
+store_short Sb = lit≤ tt
+store_short Sh = lit≤ tt
+store_short Sw = lit≤ tt
 
--- the pieces before a place, the one there, and those behind it
-pub pieces_split : (pieces : List (Bor (List ℕ))) (i : ℕ) (d : Bor (List ℕ)) → i < length pieces
-    → flat_map (λ piece. piece.now) pieces ≡ flat_map (λ piece. piece.now) (take i pieces) ++ ((get_or pieces i d).now ++ flat_map (λ piece. piece.now) (drop (suc i) pieces))
-pieces_split pieces i d inside =
-    let e : take i pieces ++ (get_or pieces i d ∷ drop (suc i) pieces) ≡ pieces = ap (λ t. take i pieces ++ t) (sym (drop-cons pieces i d inside)) ∙ take-append-drop i pieces in
-    ap (flat_map (λ piece. piece.now)) (sym e) ∙ flat_map-append (λ piece. piece.now) (take i pieces) (get_or pieces i d ∷ drop (suc i) pieces)
+pub imm_short : (op : ImmOp) → length (imm_name op) ≤ 6
+imm_short Addi = lit≤ tt
+imm_short Slti = lit≤ tt
+imm_short Sltiu = lit≤ tt
+imm_short Xori = lit≤ tt
+imm_short Ori = lit≤ tt
+imm_short Andi = lit≤ tt
+
+pub shift_short : (op : ShiftOp) → length (shift_name op) ≤ 6
+shift_short Slli = lit≤ tt
+shift_short Srli = lit≤ tt
+shift_short Srai = lit≤ tt
+
+pub reg_short : (op : RegOp) → length (reg_name op) ≤ 6
+reg_short Add = lit≤ tt
+reg_short Sub = lit≤ tt
+reg_short Sll = lit≤ tt
+reg_short Slt = lit≤ tt
+reg_short Sltu = lit≤ tt
+reg_short Xor = lit≤ tt
+reg_short Srl = lit≤ tt
+reg_short Sra = lit≤ tt
+reg_short Or = lit≤ tt
+reg_short And = lit≤ tt
+
+pub mul_short : (op : MulOp) → length (mul_name op) ≤ 6
+mul_short Mul = lit≤ tt
+mul_short Mulh = lit≤ tt
+mul_short Mulhsu = lit≤ tt
+mul_short Mulhu = lit≤ tt
+mul_short Div = lit≤ tt
+mul_short Divu = lit≤ tt
+mul_short Rem = lit≤ tt
+mul_short Remu = lit≤ tt

@@ -5,7 +5,7 @@ use Rattle.std.proofs.lemmas.Bool.{and_parts}
 use Rattle.std.proofs.lemmas.List.Splits.{length-slice_split}
 use Rattle.std.proofs.lemmas.Bool.Decides.{nat_tests}
 use Rattle.asm_lines.specs.Cuts.{is_text_byte, is_blank, trim_front, trim_end, trimmed, before_trimmed, front_to, behind, has}
-use Rattle.asm_lines.specs.Operands.{parts_of}
+use Rattle.asm_lines.specs.Operands.{operand_parts}
 
 -- the bytes of names and operands: from `(` to `z`, with no comma and no colon
 abbrev pub plain : ℕ → Bool
@@ -165,14 +165,14 @@ trimmed_space (part ∷ parts) some = refl
 some_parts : (p : ℕ → Bool) (xs : List ℕ) → 0 < length (slice_split p xs)
 some_parts p xs = omega (arith, length-slice_split p xs)
 
--- operands that are joined are parted again
-pub parts_first : (a rest : List ℕ) → list_all plain a ≡ true → parts_of (a ++ 44 ∷ 32 ∷ rest) ≡ a ∷ parts_of rest
+-- operands that are comma_joined are parted again
+pub parts_first : (a rest : List ℕ) → list_all plain a ≡ true → operand_parts (a ++ 44 ∷ 32 ∷ rest) ≡ a ∷ operand_parts rest
 parts_first a rest h =
     ap (map trimmed) (split_first (λ b. b == 44) a 44 (32 ∷ rest) (all_weaker plain (λ b. not (b == 44)) plain_no_comma a h) refl)
     ∙ ap (λ t. t ∷ map trimmed (onto_first 32 (slice_split (λ b. b == 44) rest))) (trimmed_plain a h)
     ∙ ap (λ l. a ∷ l) (trimmed_space (slice_split (λ b. b == 44) rest) (some_parts (λ b. b == 44) rest))
 
-pub parts_last : (a : List ℕ) → list_all plain a ≡ true → parts_of a ≡ a ∷ []
+pub parts_last : (a : List ℕ) → list_all plain a ≡ true → operand_parts a ≡ a ∷ []
 parts_last a h =
     ap (map trimmed) (split_none (λ b. b == 44) a (all_weaker plain (λ b. not (b == 44)) plain_no_comma a h))
     ∙ ap (λ t. t ∷ []) (trimmed_plain a h)

@@ -8,7 +8,7 @@ use Rattle.std.specs.Str.Parse.{AllDigits}
 use Rattle.std.proofs.lemmas.Str.Parse.{digit_from_value}
 use Rattle.rv_decode.specs.Words.{is_from}
 use Rattle.asm_lines.specs.Cuts.{begins_name, front_to, behind, has}
-use Rattle.asm_lines.specs.Operands.{is_paren, is_indexed_kind, inside, register_at, number_at, indexed_at, value_at, number_said, Number}
+use Rattle.asm_lines.specs.Operands.{is_paren, is_indexed_kind, inside, register_operand, number_operand, indexed_operand, value_operand, number_said, Number}
 use Rattle.rv_asm.specs.Shown.{register_text, indexed_text}
 use Rattle.rv_asm.proofs.Plain.{and_none, has_none, has_first, front_first, behind_first, take_front}
 use Rattle.rv_asm.proofs.Numerals.{digits_all, register_of-text, spelled-signed}
@@ -17,9 +17,9 @@ use Rattle.rv_asm.proofs.Numerals.{digits_all, register_of-text, spelled-signed}
 abbrev pub Spells : ℤ → Type 0
 Spells z = is_from (neg_ℤ (pos (2 ^ 31))) (pos (2 ^ 32 - 1)) z ≡ true
 
-pub register_at-text : (r : ℕ) → r < 32 → register_at (register_text r) ≡ Ok r
-unfolding register_at
-register_at-text r small = rw (register_of-text r small) refl
+pub register_operand-text : (r : ℕ) → r < 32 → register_operand (register_text r) ≡ Ok r
+unfolding register_operand
+register_operand-text r small = rw (register_of-text r small) refl
 
 -- digits have no parenthesis, and begin no name
 no_paren : (ds : List ℕ) → AllDigits 10 ds → list_all (λ b. not (is_paren b)) ds ≡ true
@@ -67,9 +67,9 @@ signed_text (negsuc n) h =
     let numeral = decimal_is_IsNumeral (suc n) (omega arith) in
     record { some = omega arith; no_name = refl; no_paren = no_paren (decimal (suc n)) numeral.0.1 }
 
-pub number_at-signed : (z : ℤ) → Spells z → number_at (signed_decimal z) ≡ Ok z
-unfolding number_at
-number_at-signed z h =
+pub number_operand-signed : (z : ℤ) → Spells z → number_operand (signed_decimal z) ≡ Ok z
+unfolding number_operand
+number_operand-signed z h =
     let text = signed_text z h in
     rw (number_kind _ _ _ text.no_name (has_none is_paren (signed_decimal z) text.no_paren), spelled-signed z h) refl
 
@@ -92,9 +92,9 @@ indexed_parts text reg s =
       ap (λ t. take (length t - 1) t) after ∙ take_but_last reg 41,
     )
 
-pub indexed_at-text : (z : ℤ) (r : ℕ) → Spells z → r < 32 → indexed_at (indexed_text z r) ≡ Ok (z, r)
-unfolding indexed_at
-indexed_at-text z r h small =
+pub indexed_operand-text : (z : ℤ) (r : ℕ) → Spells z → r < 32 → indexed_operand (indexed_text z r) ≡ Ok (z, r)
+unfolding indexed_operand
+indexed_operand-text z r h small =
     let parts = indexed_parts (signed_decimal z) (register_text r) (signed_text z h) in
     rw (parts.0, parts.1, parts.2, spelled-signed z h, register_of-text r small) refl
 
@@ -103,11 +103,11 @@ not_name : (short all : Bool) (begins : Bool) → begins ≡ false → (short &&
 not_name true all begins h = rw h refl
 not_name false all begins h = refl
 
-pub value_at-signed : (z : ℤ) → Spells z → value_at (signed_decimal z) ≡ Ok (Number z)
-unfolding value_at
-value_at-signed z h =
+pub value_operand-signed : (z : ℤ) → Spells z → value_operand (signed_decimal z) ≡ Ok (Number z)
+unfolding value_operand
+value_operand-signed z h =
     let text = signed_text z h in
-    rw (not_name _ _ _ text.no_name) (ap number_said (number_at-signed z h))
+    rw (not_name _ _ _ text.no_name) (ap number_said (number_operand-signed z h))
 
 pub signed_some : (z : ℤ) → Spells z → 0 < length (signed_decimal z)
 signed_some z h = let text = signed_text z h in text.some

@@ -8,12 +8,12 @@ use Rattle.rv_decode.specs.declared.instruction.ImmOp.TheVariants.{Addi}
 use Rattle.rv_decode.specs.Words.{word_of}
 use Rattle.asm_lines.specs.declared.kinds.Kind.{Kind}
 use Rattle.asm_lines.specs.declared.kinds.Kind.TheVariants as kinds
-use Rattle.asm_lines.specs.Operands.{parts_of, value_at, Number}
+use Rattle.asm_lines.specs.Operands.{operand_parts, value_operand, Number}
 use Rattle.asm_statements.specs.declared.forms.Cell.{Cell}
 use Rattle.asm_statements.specs.declared.forms.Cell.TheVariants.{Word, Byte}
-use Rattle.asm_statements.specs.Orders.{Order, Plain, JumpTo, BranchTo, LoadWide, LoadAddress, Cells, Zeros, Begin, Entry, coded, jump, branch, byte_at}
+use Rattle.asm_statements.specs.Orders.{Order, Plain, JumpTo, BranchTo, LoadWide, LoadAddress, Cells, Zeros, Begin, Entry, coded, jump, branch, byte_operand}
 use Rattle.asm_statements.specs.Sizes.{cell_size, size_of}
-use Rattle.rv_asm.specs.Gives.{◌>>=◌}
+use Rattle.sequencing.specs.Results.{◌>>=◌}
 use Rattle.rv_asm.specs.Labels.{Addresses}
 use Rattle.rv_asm.specs.Coded.{address_of, distance, resolved, low_first, instr_bytes, upper, lower, pair_bytes, word_value, cell_bytes, cells_bytes, bytes_of}
 
@@ -50,11 +50,11 @@ pair_size rd value bytes h =
 cell_bytes_size : (labels : Addresses) (cell : Cell) (operand bytes : List ℕ) → cell_bytes labels cell operand ≡ Ok bytes → length bytes ≡ cell_size cell
 unfolding cell_bytes
 cell_bytes_size labels Word operand bytes h =
-    let value = bound (value_at operand) _ bytes h in
+    let value = bound (value_operand operand) _ bytes h in
     let word = bound (word_value labels value.0) _ bytes value.2 in
     ap length (sym (ok_same word.2))
 cell_bytes_size labels Byte operand bytes h =
-    let number = bound (byte_at operand) _ bytes h in
+    let number = bound (byte_operand operand) _ bytes h in
     ap length (sym (ok_same number.2))
 
 cells_size : (labels : Addresses) (cell : Cell) (operands : List (List ℕ)) (bytes : List ℕ) → cells_bytes labels cell operands ≡ Ok bytes → length bytes ≡ cell_size cell * length operands
@@ -93,7 +93,7 @@ bytes_size labels here (LoadWide rd value) known bytes e h = pair_size rd value 
 bytes_size labels here (LoadAddress rd name) known bytes e h =
     let address = bound (address_of labels name) (λ address. Ok (LoadWide rd address)) known e in
     pair_size rd address.0 bytes (known_bytes labels (LoadWide rd address.0) known bytes address.2 h)
-bytes_size labels here (Cells cell text) known bytes e h = cells_size labels cell (parts_of text) bytes (known_bytes labels (Cells cell text) known bytes e h)
+bytes_size labels here (Cells cell text) known bytes e h = cells_size labels cell (operand_parts text) bytes (known_bytes labels (Cells cell text) known bytes e h)
 bytes_size labels here (Zeros count) known bytes e h = ap length (sym (ok_same (known_bytes labels (Zeros count) known bytes e h))) ∙ length-replicate count 0
 bytes_size labels here (Begin address) known bytes e h = ap length (sym (ok_same (known_bytes labels (Begin address) known bytes e h)))
 bytes_size labels here (Entry name) known bytes e h = ap length (sym (ok_same (known_bytes labels (Entry name) known bytes e h)))

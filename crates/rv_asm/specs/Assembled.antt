@@ -1,9 +1,10 @@
 -- What a text says, or its first fault.
 use Rattle.std.specs.Prelude.{ℕ, ◌+◌, if◌then◌else◌, List, length, Result, Ok, Err}
-use Rattle.program.specs.declared.Program.{Program}
+use Rattle.executable.specs.declared.Program.{Program}
 use Rattle.asm_lines.specs.declared.kinds.Kind.TheVariants as kinds
-use Rattle.asm_lines.specs.Lines.{lines_of}
-use Rattle.rv_asm.specs.Gives.{Spot, located, ◌>>=◌}
+use Rattle.asm_lines.specs.Lines.{source_lines}
+use Rattle.rv_asm.specs.Gives.{Spot, located}
+use Rattle.sequencing.specs.Results.{◌>>=◌}
 use Rattle.rv_asm.specs.First.{Place, start, first_lines}
 use Rattle.rv_asm.specs.Second.{nothing, second_lines, finished}
 
@@ -19,5 +20,5 @@ with_labels lines place =
 -- entry and the segments.
 unfoldable pub assembled : List ℕ → Result Program Spot
 assembled text = do
-  place ← first_lines start 1 (lines_of text)
-  with_labels (lines_of text) place
+  place ← first_lines start 1 (source_lines text)
+  with_labels (source_lines text) place

@@ -8,12 +8,12 @@ use Rattle.rv_decode.specs.declared.instruction.ImmOp.TheVariants.{Addi}
 use Rattle.rv_decode.specs.Words.{word_of}
 use Rattle.asm_lines.specs.declared.kinds.Kind.{Kind}
 use Rattle.asm_lines.specs.declared.kinds.Kind.TheVariants as kinds
-use Rattle.asm_lines.specs.Operands.{Said, Label, Number, parts_of, value_at}
+use Rattle.asm_lines.specs.Operands.{Said, Label, Number, operand_parts, value_operand}
 use Rattle.asm_statements.specs.declared.forms.Cell.{Cell}
 use Rattle.asm_statements.specs.declared.forms.Cell.TheVariants.{Word, Byte}
-use Rattle.asm_statements.specs.Orders.{Order, Plain, JumpTo, BranchTo, LoadWide, LoadAddress, Cells, Zeros, low_bits, jump, branch, byte_at}
+use Rattle.asm_statements.specs.Orders.{Order, Plain, JumpTo, BranchTo, LoadWide, LoadAddress, Cells, Zeros, low_bits, jump, branch, byte_operand}
 use Rattle.rv_asm.specs.Labels.{Addresses}
-use Rattle.rv_asm.specs.Gives.{◌>>=◌}
+use Rattle.sequencing.specs.Results.{◌>>=◌}
 
 abbrev pub address_of : Addresses → List ℕ → Result ℕ Kind
 address_of labels name = ok_or (labels name) kinds.UnknownLabel
@@ -67,11 +67,11 @@ word_value labels (Label name) = address_of labels name
 -- the bytes of one operand of `.word` or `.byte`
 unfoldable pub cell_bytes : Addresses → Cell → List ℕ → Result (List ℕ) Kind
 cell_bytes labels Word operand = do
-  value ← value_at operand
+  value ← value_operand operand
   word ← word_value labels value
   Ok (to_le_bytes w32 word)
 cell_bytes labels Byte operand = do
-  number ← byte_at operand
+  number ← byte_operand operand
   Ok (low_bits 8 number ∷ [])
 
 abbrev pub cells_bytes : Addresses → Cell → List (List ℕ) → Result (List ℕ) Kind
@@ -85,6 +85,6 @@ cells_bytes labels cell (operand ∷ operands) = do
 abbrev pub bytes_of : Addresses → Order → Result (List ℕ) Kind
 bytes_of labels (Plain instr) = instr_bytes instr
 bytes_of labels (LoadWide rd value) = pair_bytes rd value
-bytes_of labels (Cells cell text) = cells_bytes labels cell (parts_of text)
+bytes_of labels (Cells cell text) = cells_bytes labels cell (operand_parts text)
 bytes_of labels (Zeros count) = Ok (replicate count 0)
 bytes_of labels order = Ok []

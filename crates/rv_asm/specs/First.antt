@@ -3,11 +3,12 @@ use Rattle.std.specs.Prelude.{ℕ, ◌+◌, ◌%◌, ◌^◌, Bool, true, false,
 use Rattle.std.specs.Option.{is_some, ok_or}
 use Rattle.asm_lines.specs.declared.kinds.Kind.{Kind}
 use Rattle.asm_lines.specs.declared.kinds.Kind.TheVariants as kinds
-use Rattle.asm_lines.specs.Cuts.{Words, Line, cut_of}
+use Rattle.asm_lines.specs.Cuts.{StatementWords, Line, parse_line}
 use Rattle.asm_statements.specs.Orders.{Order, Begin, Entry, order_in}
 use Rattle.asm_statements.specs.Sizes.{size_of, is_instruction}
 use Rattle.rv_asm.specs.Labels.{Addresses, no_labels, with_address, addresses_in}
-use Rattle.rv_asm.specs.Gives.{Spot, located, ◌>>=◌}
+use Rattle.rv_asm.specs.Gives.{Spot, located}
+use Rattle.sequencing.specs.Results.{◌>>=◌}
 use Rattle.rv_asm.specs.declared.first.Place as code
 
 -- where the lines so far have come to
@@ -22,21 +23,25 @@ abbrev pub start : Place
 start = record { next = None; total = 0; segments = 0; has_entry = false; labels = no_labels }
 
 -- the same of the code's own
-abbrev pub place_of : code.Place → Place
-place_of p = record { next = p.next; total = p.total; segments = p.segments; has_entry = p.has_entry; labels = addresses_in p.labels }
+abbrev pub first_pass_place : code.Place → Place
+first_pass_place p = record { next = p.next; total = p.total; segments = p.segments; has_entry = p.has_entry; labels = addresses_in p.labels }
 
 abbrev pub is_known : Addresses → Option (List ℕ) → Bool
 is_known labels None = false
 is_known labels (Some name) = is_some (labels name)
 
 -- a label has the address of the next byte, which is below 2^32
+abbrev pub label_address : Option ℕ → Option ℕ
+label_address None = None
+label_address (Some address) = if nat_lt address (2 ^ 32) then Some address else None
+
 abbrev pub label_here : Place → List ℕ → Option ℕ → Result Place Kind
 label_here place name None = Err kinds.Layout
-label_here place name (Some address) = if nat_lt address (2 ^ 32) then Ok (record place { labels = with_address place.labels name address }) else Err kinds.Layout
+label_here place name (Some address) = Ok (record place { labels = with_address place.labels name address })
 
 abbrev pub with_label : Place → Option (List ℕ) → Result Place Kind
 with_label place None = Ok place
-with_label place (Some name) = label_here place name place.next
+with_label place (Some name) = label_here place name (label_address place.next)
 
 -- bytes end at 2^32 at most, instructions are aligned, and there are at most 1,048,576 bytes in all
 abbrev pub has_room : ℕ → ℕ → Bool → ℕ → Bool
@@ -56,16 +61,16 @@ abbrev pub with_bytes : Place → ℕ → Bool → Result Place Kind
 with_bytes place size instruction = if size == 0 then Ok place else bytes_to place size (end_of place.next place.total size instruction)
 
 -- one `.entry`
-abbrev pub with_entry : Place → Result Place Kind
-with_entry place = if place.has_entry then Err kinds.Layout else Ok (record place { has_entry = true })
+abbrev pub entry_noted : Place → Result Place Kind
+entry_noted place = if place.has_entry then Err kinds.Layout else Ok (record place { has_entry = true })
 
 -- at most 64 segments
-abbrev pub with_segment : Place → ℕ → Result Place Kind
-with_segment place address = if nat_lt place.segments 64 then Ok (record place { next = Some address; segments = place.segments + 1 }) else Err kinds.Layout
+abbrev pub next_segment : Place → ℕ → Result Place Kind
+next_segment place address = if nat_lt place.segments 64 then Ok (record place { next = Some address; segments = place.segments + 1 }) else Err kinds.Layout
 
 abbrev pub with_order : Place → Order → Result Place Kind
-with_order place (Begin address) = with_segment place address
-with_order place (Entry name) = with_entry place
+with_order place (Begin address) = next_segment place address
+with_order place (Entry name) = entry_noted place
 with_order place order = with_bytes place (size_of order) (is_instruction order)
 
 abbrev pub with_orders : Place → Option Order → Result Place Kind
@@ -73,11 +78,21 @@ with_orders place None = Ok place
 with_orders place (Some order) = with_order place order
 
 -- what a line's statement orders, where it has one
-abbrev pub order_of_line : Option Words → Result (Option Order) Kind
+abbrev pub order_of_line : Option StatementWords → Result (Option Order) Kind
 order_of_line None = Ok None
 order_of_line (Some words) = do
   order ← order_in words
   Ok (Some order)
+
+-- a statement's bytes, behind its label
+abbrev pub with_words : Place → Option StatementWords → Result Place Kind
+with_words place statement = do
+  order ← order_of_line statement
+  with_orders place order
+
+-- a line with a label
+abbrev pub labelled_line : List ℕ → Option StatementWords → Line
+labelled_line name statement = record { label = Some name; statement = statement }
 
 -- a label that an earlier line has comes before the statement's faults, and Layout after them
 unfoldable pub with_line : Place → Line → Result Place Kind
@@ -87,11 +102,15 @@ with_line place line =
       labelled ← with_label place line.label
       with_orders labelled order)
 
+-- the place after a line that says this
+abbrev pub after_said : Place → Option Line → Result Place Kind
+after_said place said = do
+  line ← ok_or said kinds.Text
+  with_line place line
+
 -- the place after one line more
 unfoldable pub first_line : Place → List ℕ → Result Place Kind
-first_line place text = do
-  line ← ok_or (cut_of text) kinds.Text
-  with_line place line
+first_line place text = after_said place (parse_line text)
 
 -- the place after the lines, of which the first has this number
 abbrev pub first_lines : Place → ℕ → List (List ℕ) → Result Place Spot

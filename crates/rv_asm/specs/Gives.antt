@@ -7,11 +7,6 @@ use Rattle.rv_asm.specs.declared.faults.Stop.TheVariants as stops
 use Rattle.rv_asm.specs.declared.faults.AsmFault.{AsmFault}
 use Rattle.rv_asm.specs.declared.faults.AsmFault.TheVariants as faults
 
-infixl 10 ◌>>=◌
-abbrev pub ◌>>=◌ : {A B E : Type 0} → Result A E → (A → Result B E) → Result B E
-(Ok a) >>= f = f a
-(Err fault) >>= f = Err fault
-
 -- a fault, by its line and the number of its kind
 pub record Spot : Type 0 where
   pub line : ℕ
@@ -23,14 +18,19 @@ located line (Ok value) = Ok value
 located line (Err kind) = Err (record { line = line; kind = number_of_kind kind })
 
 -- a stop for a fault says that reading has that fault; want of memory says nothing
-abbrev pub Stops : {Y : Type 0} → Stop → Result Y Kind → Type 0
-Stops (stops.Fault kind) reading = reading ≡ Err kind
-Stops stops.Memory reading = Unit {0}
+abbrev pub IsFaultOf : {Y : Type 0} → Stop → Result Y Kind → Type 0
+IsFaultOf (stops.Fault kind) reading = reading ≡ Err kind
+IsFaultOf stops.Memory reading = Unit {0}
+
+-- reading gives what was left behind a reference
+abbrev pub Leaves : {X Y : Type 0} → Result X Stop → Y → Result Y Kind → Type 0
+Leaves (Ok done) left reading = reading ≡ Ok left
+Leaves (Err stop) left reading = IsFaultOf stop reading
 
 -- what was returned, seen by view, is what reading gives
-abbrev pub Gives : {X Y : Type 0} → (X → Y) → Result X Stop → Result Y Kind → Type 0
-Gives view (Ok value) reading = reading ≡ Ok (view value)
-Gives view (Err stop) reading = Stops stop reading
+abbrev pub Returns : {X Y : Type 0} → (X → Y) → Result X Stop → Result Y Kind → Type 0
+Returns view (Ok value) reading = reading ≡ Ok (view value)
+Returns view (Err stop) reading = IsFaultOf stop reading
 
 -- bytes, with others before them
 abbrev pub onto : List ℕ → Result (List ℕ) Kind → Result (List ℕ) Kind
@@ -40,7 +40,7 @@ onto front (Err kind) = Err kind
 -- the bytes that reading gives were appended
 abbrev pub Puts : {X : Type 0} → Result X Stop → List ℕ → List ℕ → Result (List ℕ) Kind → Type 0
 Puts (Ok done) old new reading = onto old reading ≡ Ok new
-Puts (Err stop) old new reading = Stops stop reading
+Puts (Err stop) old new reading = IsFaultOf stop reading
 
 -- the same of a whole text
 abbrev pub StopsAt : {Y : Type 0} → AsmFault → Result Y Spot → Type 0

@@ -1,9 +1,7 @@
 -- Labels and their addresses.
 use Rattle.std.specs.Prelude.{ℕ, if◌then◌else◌, List, Option, Some, None}
 use Rattle.std.specs.Str.{bytes_eq}
-use Rattle.std.specs.Ordering.{nat_cmp}
-use Rattle.std.specs.Cmp.Lexicographic.{slice_cmp}
-use Rattle.std.specs.BTreeMap as tree
+use Rattle.std.specs.HashMap as hash
 use Rattle.rv_asm.specs.declared.labels.Labels.{Labels}
 
 -- the address that each name has, if it is a label
@@ -19,4 +17,4 @@ with_address labels name address = λ other. if bytes_eq name other then Some ad
 
 -- the same of the code's own
 abbrev pub addresses_in : Labels → Addresses
-addresses_in labels = λ name. tree.get_by (λ key. slice_cmp nat_cmp name key.now) labels.map
+addresses_in labels = λ name. hash.get_by (λ key. bytes_eq name key.now) labels.map

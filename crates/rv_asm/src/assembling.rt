@@ -1,43 +1,29 @@
 // From a text to an executable.
 
-ghost use Rattle.std.specs.Prelude.{◌≡◌, ◌+◌, ◌<◌, ◌≤◌, length, IfOk};
-ghost use Rattle.program.specs.Writable.{IsWritable};
-ghost use Rattle.asm_lines.specs.Lines.{lines_of};
+ghost use Rattle.std.specs.Prelude.{◌≡◌, IfOk};
+ghost use Rattle.executable.specs.Writable.{IsWritable};
 ghost use Rattle.rv_asm.specs.Gives.{GivesAt};
-ghost use Rattle.rv_asm.specs.First.{place_of};
-ghost use Rattle.rv_asm.specs.Assembled.{with_labels, assembled};
+ghost use Rattle.rv_asm.specs.First.{first_pass_place};
+ghost use Rattle.rv_asm.specs.Kept.{kept_orders, from_kept};
+ghost use Rattle.rv_asm.specs.Assembled.{assembled};
 
-use crate::faults::{AsmFault, Stop, fault_at};
-use crate::first::{Place, first_pass};
+use crate::faults::AsmFault;
+use crate::first::{Reading, first_pass};
 use crate::second::{finished, second_pass};
-use asm_lines::{Kind, next_line};
-use program::Program;
+use asm_lines::Kind;
+use executable::Program;
 use std::alloc::Global;
 
-// How many lines a text has.
-fn line_count(text: &[u8]) -> u64
-    ensures count { result ≡ length (lines_of text.now) }
-    ensures within { result ≤ length text.now }
+fn from_kept(alloc: Global, reading: &Reading<'_>) -> Result<Program, AsmFault>
+    ensures { GivesAt (λ program. program) result (from_kept (first_pass_place reading.now.place) (kept_orders reading.now.kept.items) reading.now.after) }
 {
-    let mut rest = text;
-    let mut count = 0u64;
-    while let Some((_, after)) = next_line(rest) {
-        rest = after;
-        count += 1;
-    }
-    count
-}
-
-fn with_labels(alloc: Global, text: &[u8], place: &Place<'_>) -> Result<Program, AsmFault>
-    ensures { GivesAt (λ program. program) result (with_labels (lines_of text.now) (place_of place.now)) }
-{
-    if !place.has_entry {
+    if !reading.place.has_entry {
         return Err(AsmFault::At {
-            line: line_count(text) + 1,
+            line: reading.after,
             kind: Kind::Layout.number(),
         });
     }
-    let output = second_pass(alloc, &place.labels, text)?;
+    let output = second_pass(alloc, &reading.place.labels, reading.kept.as_slice())?;
     match finished(output) {
         Ok(program) => Ok(program),
         Err(_) => Err(AsmFault::Memory),
@@ -52,6 +38,6 @@ pub fn assemble(alloc: Global, text: &[u8]) -> Result<Program, AsmFault>
     ensures gives { GivesAt (λ program. program) result (assembled text.now) }
     ensures writable { IfOk result (λ program. IsWritable program) }
 {
-    let place = first_pass(alloc, text)?;
-    with_labels(alloc, text, &place)
+    let reading = first_pass(alloc, text)?;
+    from_kept(alloc, &reading)
 }

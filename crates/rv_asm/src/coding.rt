@@ -1,9 +1,9 @@
 // The bytes of a statement.
 
-ghost use Rattle.std.specs.Prelude.{◌≡◌, ℕ, ℤ, pos, ◌+◌, ◌<◌, ◌≤◌, ◌^◌, ◌++◌, ◌∷◌, [], length, replicate, Ok};
+ghost use Rattle.std.specs.Prelude.{◌≡◌, ℕ, ℤ, pos, ◌-ℤ◌, ◌≤◌, ◌^◌, ◌∷◌, [], replicate, Ok, MatchOption};
 ghost use Rattle.std.specs.Result.{result_map_both};
 ghost use Rattle.rv_decode.specs.declared.instruction.Instr.{Instr};
-ghost use Rattle.asm_lines.specs.Operands.{parts_of, said};
+ghost use Rattle.asm_lines.specs.Operands.{operand_parts, said};
 ghost use Rattle.asm_statements.specs.Orders.{order_of};
 ghost use Rattle.asm_statements.specs.Orders as orders;
 ghost use Rattle.rv_asm.specs.Gives.{Puts};
@@ -23,22 +23,25 @@ fn address_of(labels: &Labels<'_>, name: &[u8]) -> Result<u32, Kind>
     labels.address_of(name).ok_or(Kind::UnknownLabel)
 }
 
-// A label's distance from an instruction.
-fn distance(labels: &Labels<'_>, name: &[u8], here: u64) -> Result<i64, Kind>
-    requires { here < 2 ^ 62 }
-    ensures { result ≡ coded.distance (addresses_in labels.now) name.now here }
+// How far an address is from an instruction that stands below 2^40.
+fn offset_to(address: u32, here: u64) -> Option<i64>
+    ensures { MatchOption result (2 ^ 40 ≤ here) (λ offset. offset ≡ pos address -ℤ pos here) }
 {
-    let address = address_of(labels, name)?;
-    Ok(i64::from(address) - here as i64)
+    if here >= 0x100_0000_0000 {
+        return None;
+    }
+    Some(i64::from(address) - here as i64)
 }
 
 #[tactic(auto, unfolding(crate::specs::Coded::resolved))]
 fn jump_to<'a>(labels: &Labels<'_>, here: u64, rd: u32, label: &[u8]) -> Result<Statement<'a>, Kind>
-    requires { here < 2 ^ 62 }
     ensures { result_map_both order_of (λ kind. kind) result ≡ resolved (addresses_in labels.now) here (orders.JumpTo rd label.now) }
 {
-    match distance(labels, label, here) {
-        Ok(offset) => jal_word(rd, offset),
+    match address_of(labels, label) {
+        Ok(address) => match offset_to(address, here) {
+            Some(offset) => jal_word(rd, offset),
+            None => Err(Kind::Range),
+        },
         Err(kind) => Err(kind),
     }
 }
@@ -52,11 +55,13 @@ fn branch_to<'a>(
     rs2: u32,
     label: &[u8],
 ) -> Result<Statement<'a>, Kind>
-    requires { here < 2 ^ 62 }
     ensures { result_map_both order_of (λ kind. kind) result ≡ resolved (addresses_in labels.now) here (orders.BranchTo op rs1 rs2 label.now) }
 {
-    match distance(labels, label, here) {
-        Ok(offset) => branch_word(op, rs1, rs2, offset),
+    match address_of(labels, label) {
+        Ok(address) => match offset_to(address, here) {
+            Some(offset) => branch_word(op, rs1, rs2, offset),
+            None => Err(Kind::Range),
+        },
         Err(kind) => Err(kind),
     }
 }
@@ -68,7 +73,6 @@ pub fn resolved<'a>(
     here: u64,
     statement: Statement<'a>,
 ) -> Result<Statement<'a>, Kind>
-    requires { here < 2 ^ 62 }
     ensures { result_map_both order_of (λ kind. kind) result ≡ resolved (addresses_in labels.now) here (order_of statement.entry) }
 {
     match statement {
@@ -185,7 +189,7 @@ fn put_cell(
 
 #[tactic(auto, using(crate::proofs::Cells::cells_more, crate::proofs::Cells::cells_last, crate::proofs::Cells::cells_stop_later))]
 fn put_cells(bytes: &mut Vec<u8>, labels: &Labels<'_>, cell: Cell, text: &[u8]) -> Result<(), Stop>
-    ensures { Puts result bytes.old.items bytes.new.items (cells_bytes (addresses_in labels.now) cell (parts_of text.now)) }
+    ensures { Puts result bytes.old.items bytes.new.items (cells_bytes (addresses_in labels.now) cell (operand_parts text.now)) }
 {
     let mut rest = text;
     loop {

@@ -4,6 +4,7 @@ ghost use Rattle.std.specs.Prelude.{◌≡◌};
 ghost use Rattle.rv_asm.specs.Gives.{at_line};
 
 use asm_lines::Kind;
+use thiserror::Error;
 
 /// Why a line isn't read.
 #[derive(Clone, Copy, Debug)]
@@ -13,12 +14,14 @@ pub enum Stop {
 }
 
 /// Why a text isn't assembled.
-#[derive(Clone, Copy, Debug, PartialEq, Eq)]
+#[derive(Clone, Copy, Debug, PartialEq, Eq, Error)]
 pub enum AsmFault {
     /// The first fault. Lines are counted from 1. The kinds are 1 Text, 2 Mnemonic, 3 Operands, 4 Register, 5 Number,
     /// 6 Range, 7 UnknownLabel, 8 DuplicateLabel and 9 Layout.
+    #[error("line {line} has a fault of kind {kind}")]
     At { line: u64, kind: u32 },
     /// There is no memory for what the text says.
+    #[error("out of memory")]
     Memory,
 }
 

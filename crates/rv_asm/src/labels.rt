@@ -1,15 +1,15 @@
 // Labels, by name.
 
-ghost use Rattle.std.specs.Prelude.{◌≡◌, OnOk};
+ghost use Rattle.std.specs.Prelude.{◌≡◌, not, is_some, IfOk, OnOk};
 ghost use Rattle.rv_asm.specs.Labels.{Addresses, no_labels, with_address, addresses_in};
 
 use std::alloc::{AllocError, Global};
-use std::collections::BTreeMap;
+use std::collections::HashMap;
 
 /// The labels that lines have, with their addresses.
 #[derive(Drop)]
 pub struct Labels<'a> {
-    map: BTreeMap<&'a [u8], u32>,
+    map: HashMap<&'a [u8], u32>,
 }
 
 impl<'a> Labels<'a> {
@@ -18,7 +18,7 @@ impl<'a> Labels<'a> {
         ensures { addresses_in result ≡ no_labels }
     {
         Labels {
-            map: BTreeMap::new(alloc),
+            map: HashMap::new(alloc),
         }
     }
 
@@ -29,11 +29,14 @@ impl<'a> Labels<'a> {
         self.map.get(name).copied()
     }
 
-    /// One label more, or another address of it.
-    pub fn insert(&mut self, name: &'a [u8], address: u32) -> Result<(), AllocError>
-        ensures { OnOk result (addresses_in self.new ≡ with_address (addresses_in self.old) name.now address) }
+    /// Returns a name its address, and says whether it is a new label. One look-up does both.
+    pub fn add(&mut self, name: &'a [u8], address: u32) -> Result<bool, AllocError>
+        ensures new { IfOk result (λ new. new ≡ not (is_some (addresses_in self.old name.now))) }
+        ensures grown { OnOk result (addresses_in self.new ≡ with_address (addresses_in self.old) name.now address) }
     {
-        self.map.insert(name, address)?;
-        Ok(())
+        match self.map.insert(name, address) {
+            Ok(old) => Ok(old.is_none()),
+            Err(_) => Err(AllocError),
+        }
     }
 }

@@ -24,6 +24,7 @@ mod showing;
 mod tests;
 
 pub use assembling::assemble;
+pub use executable::{Program, Segment};
 pub use faults::AsmFault;
-pub use laws::{programs_can_be_written, shown_texts_assemble};
-pub use showing::show;
+pub use laws::{labels_stand_at_their_bytes, programs_can_be_written, shown_texts_assemble};
+pub use showing::{Line, put, put_text, show};

@@ -1,267 +1,219 @@
-// The listing's text of an instruction.
+// The listing's text of an instruction and of a word, made in place.
 
-ghost use Rattle.std.specs.Prelude.{◌≡◌, ◌<◌, ◌≤◌, List, ℕ, [], ◌∷◌, length, Some, IsSome, OnOk, OnErr};
-ghost use Rattle.std.specs.List.{flat_map};
-ghost use Rattle.att_base.specs.Faults.{Rose};
+ghost use Rattle.std.specs.Prelude.{◌≡◌, ◌+◌, ◌++◌, ◌≤◌, [], ◌∷◌, length, codes, Some, IsSome, OnOk, OnErr};
+ghost use Rattle.std.specs.Fmt.{signed_decimal};
+ghost use Rattle.arrayvec.specs.ArrayVec.{array_vec_len};
+ghost use Rattle.att_base.specs.Faults.{FaultCountRose};
 ghost use Rattle.att_base.specs.Streams.{put_after, AppendsFront};
 ghost use Rattle.rv_decode.specs.declared.instruction.Instr.{Instr};
 ghost use Rattle.rv_decode.specs.Words.{word_of};
-ghost use Rattle.rv_asm.specs.Shown.{branch_name, load_name, store_name, imm_name, shift_name, reg_name, register_text, field_text, statement_text, indexed_text, word_text, text_of};
-ghost use Rattle.hex.specs.Hex.{encode_lower};
-ghost use Rattle.std.specs.Int.{to_be_bytes, w32};
-ghost use Rattle.std.specs.Fmt.{decimal, signed_decimal};
+ghost use Rattle.rv_asm.specs.Shown.{register_text, field_text, statement_text, indexed_text, word_text, text_of, shown_text};
 
+use arrayvec::ArrayVec;
 use att_base::{Failed, Sink, put_all};
 use itoa::Buffer;
-use rv_decode::{BranchOp, ImmOp, Instr, LoadOp, RegOp, ShiftOp, StoreOp, encode};
+use rv_decode::{Instr, decode, encode};
+use text_readers::word_digits;
 
-fn branch_name<'a>(op: BranchOp) -> &'a [u8]
-    ensures { result.now ≡ branch_name op }
+/// A line that is made in place, of at most 96 bytes.
+pub type Line = ArrayVec<u8, 96>;
+
+/// Appends a piece for which the line has room.
+pub fn put(line: &mut Line, piece: &[u8])
+    requires { array_vec_len line.old + length piece.now ≤ 96 }
+    ensures text { line.new.items ≡ line.old.items ++ piece.now }
+    ensures len { array_vec_len line.new ≡ array_vec_len line.old + length piece.now }
 {
-    match op {
-        BranchOp::Beq => b"beq",
-        BranchOp::Bne => b"bne",
-        BranchOp::Blt => b"blt",
-        BranchOp::Bge => b"bge",
-        BranchOp::Bltu => b"bltu",
-        BranchOp::Bgeu => b"bgeu",
-    }
+    let Ok(()) = line.try_extend_from_slice(piece) else {
+        unreachable!()
+    };
 }
 
-fn load_name<'a>(op: LoadOp) -> &'a [u8]
-    ensures { result.now ≡ load_name op }
+fn put_register(line: &mut Line, register: u32)
+    requires { array_vec_len line.old ≤ 80 }
+    ensures text { line.new.items ≡ line.old.items ++ register_text register }
+    ensures len { array_vec_len line.new ≤ array_vec_len line.old + 11 }
 {
-    match op {
-        LoadOp::Lb => b"lb",
-        LoadOp::Lh => b"lh",
-        LoadOp::Lw => b"lw",
-        LoadOp::Lbu => b"lbu",
-        LoadOp::Lhu => b"lhu",
-    }
+    let mut digits = Buffer::new();
+    put(line, b"x");
+    put(line, digits.format(register).as_bytes());
 }
 
-fn store_name<'a>(op: StoreOp) -> &'a [u8]
-    ensures { result.now ≡ store_name op }
+fn put_number(line: &mut Line, number: i64)
+    requires { array_vec_len line.old ≤ 70 }
+    ensures text { line.new.items ≡ line.old.items ++ signed_decimal number }
+    ensures len { array_vec_len line.new ≤ array_vec_len line.old + 20 }
 {
-    match op {
-        StoreOp::Sb => b"sb",
-        StoreOp::Sh => b"sh",
-        StoreOp::Sw => b"sw",
-    }
-}
-
-fn imm_name<'a>(op: ImmOp) -> &'a [u8]
-    ensures { result.now ≡ imm_name op }
-{
-    match op {
-        ImmOp::Addi => b"addi",
-        ImmOp::Slti => b"slti",
-        ImmOp::Sltiu => b"sltiu",
-        ImmOp::Xori => b"xori",
-        ImmOp::Ori => b"ori",
-        ImmOp::Andi => b"andi",
-    }
-}
-
-fn shift_name<'a>(op: ShiftOp) -> &'a [u8]
-    ensures { result.now ≡ shift_name op }
-{
-    match op {
-        ShiftOp::Slli => b"slli",
-        ShiftOp::Srli => b"srli",
-        ShiftOp::Srai => b"srai",
-    }
-}
-
-fn reg_name<'a>(op: RegOp) -> &'a [u8]
-    ensures { result.now ≡ reg_name op }
-{
-    match op {
-        RegOp::Add => b"add",
-        RegOp::Sub => b"sub",
-        RegOp::Sll => b"sll",
-        RegOp::Slt => b"slt",
-        RegOp::Sltu => b"sltu",
-        RegOp::Xor => b"xor",
-        RegOp::Srl => b"srl",
-        RegOp::Sra => b"sra",
-        RegOp::Or => b"or",
-        RegOp::And => b"and",
-    }
-}
-
-// Appends the pieces one after the other.
-fn put_pieces<K: Sink>(sink: &mut K, pieces: &[&[u8]]) -> Result<(), Failed>
-    ensures ok { OnOk result (K.held sink.new ≡ put_after (K.held sink.old) (flat_map (λ piece. piece.now) pieces.now)) }
-    ensures err { OnErr result (AppendsFront (K.held sink.old) (K.held sink.new) (flat_map (λ piece. piece.now) pieces.now)) }
-    ensures later { K.faults sink.old ≤ K.faults sink.new }
-    ensures cause { OnErr result (Rose (K.faults sink.old) (K.faults sink.new)) }
-{
-    for piece in pieces {
-        match put_all(sink, piece) {
-            Ok(()) => {}
-            Err(failed) => return Err(failed),
-        }
-    }
-    Ok(())
+    let mut digits = Buffer::new();
+    put(line, digits.format(number).as_bytes());
 }
 
 // `NAME rd, 0xFIELD`
-#[tactic(auto, using(crate::proofs::Pieces::append_nil))]
-fn put_upper<K: Sink>(sink: &mut K, name: &[u8], rd: u32, imm: u32) -> Result<(), Failed>
-    ensures ok { OnOk result (K.held sink.new ≡ put_after (K.held sink.old) (statement_text name.now (register_text rd ∷ field_text imm ∷ []))) }
-    ensures err { OnErr result (AppendsFront (K.held sink.old) (K.held sink.new) (statement_text name.now (register_text rd ∷ field_text imm ∷ []))) }
-    ensures later { K.faults sink.old ≤ K.faults sink.new }
-    ensures cause { OnErr result (Rose (K.faults sink.old) (K.faults sink.new)) }
+#[tactic(auto, using(crate::proofs::Pieces::two_joined))]
+fn put_upper(line: &mut Line, name: &[u8], rd: u32, imm: u32)
+    requires room { array_vec_len line.old ≤ 30 }
+    requires name { length name.now ≤ 6 }
+    ensures text { line.new.items ≡ line.old.items ++ statement_text name.now (register_text rd ∷ field_text imm ∷ []) }
+    ensures len { array_vec_len line.new ≤ array_vec_len line.old + 60 }
 {
-    let mut r = Buffer::new();
-    let digits = hex_digits(imm);
-    put_pieces(
-        sink,
-        &[name, b" x", r.format(rd).as_bytes(), b", 0x", &digits[3..]],
-    )
-}
-
-fn hex_digits(word: u32) -> [u8; 8]
-    ensures { result ≡ encode_lower (to_be_bytes w32 word) }
-{
-    let mut digits = [0u8; 8];
-    let bytes = word.to_be_bytes();
-    let Ok(()) = hex::encode_to_slice(bytes.as_slice(), &mut digits) else {
-        unreachable!()
-    };
-    digits
+    let digits = word_digits(imm);
+    put(line, name);
+    put(line, b" ");
+    put_register(line, rd);
+    put(line, b", ");
+    put(line, b"0x");
+    put(line, &digits[3..]);
 }
 
 // `NAME rd, NUMBER`
-#[tactic(auto, using(crate::proofs::Pieces::append_nil))]
-fn put_number<K: Sink>(sink: &mut K, name: &[u8], rd: u32, number: i64) -> Result<(), Failed>
-    ensures ok { OnOk result (K.held sink.new ≡ put_after (K.held sink.old) (statement_text name.now (register_text rd ∷ signed_decimal number ∷ []))) }
-    ensures err { OnErr result (AppendsFront (K.held sink.old) (K.held sink.new) (statement_text name.now (register_text rd ∷ signed_decimal number ∷ []))) }
-    ensures later { K.faults sink.old ≤ K.faults sink.new }
-    ensures cause { OnErr result (Rose (K.faults sink.old) (K.faults sink.new)) }
+#[tactic(auto, using(crate::proofs::Pieces::two_joined))]
+fn put_offset(line: &mut Line, name: &[u8], rd: u32, number: i64)
+    requires room { array_vec_len line.old ≤ 30 }
+    requires name { length name.now ≤ 6 }
+    ensures text { line.new.items ≡ line.old.items ++ statement_text name.now (register_text rd ∷ signed_decimal number ∷ []) }
+    ensures len { array_vec_len line.new ≤ array_vec_len line.old + 60 }
 {
-    let mut r = Buffer::new();
-    let mut digits = Buffer::new();
-    put_pieces(
-        sink,
-        &[
-            name,
-            b" x",
-            r.format(rd).as_bytes(),
-            b", ",
-            digits.format(number).as_bytes(),
-        ],
-    )
+    put(line, name);
+    put(line, b" ");
+    put_register(line, rd);
+    put(line, b", ");
+    put_number(line, number);
 }
 
 // `NAME r, NUMBER(base)`
-#[tactic(auto, using(crate::proofs::Pieces::append_nil))]
-fn put_indexed<K: Sink>(
-    sink: &mut K,
-    name: &[u8],
-    register: u32,
-    number: i64,
-    base: u32,
-) -> Result<(), Failed>
-    ensures ok { OnOk result (K.held sink.new ≡ put_after (K.held sink.old) (statement_text name.now (register_text register ∷ indexed_text number base ∷ []))) }
-    ensures err { OnErr result (AppendsFront (K.held sink.old) (K.held sink.new) (statement_text name.now (register_text register ∷ indexed_text number base ∷ []))) }
-    ensures later { K.faults sink.old ≤ K.faults sink.new }
-    ensures cause { OnErr result (Rose (K.faults sink.old) (K.faults sink.new)) }
+#[tactic(auto, using(crate::proofs::Pieces::two_joined))]
+fn put_indexed(line: &mut Line, name: &[u8], register: u32, number: i64, base: u32)
+    requires room { array_vec_len line.old ≤ 30 }
+    requires name { length name.now ≤ 6 }
+    ensures text { line.new.items ≡ line.old.items ++ statement_text name.now (register_text register ∷ indexed_text number base ∷ []) }
+    ensures len { array_vec_len line.new ≤ array_vec_len line.old + 60 }
 {
-    let mut r = Buffer::new();
-    let mut n = Buffer::new();
-    let mut b = Buffer::new();
-    put_pieces(
-        sink,
-        &[
-            name,
-            b" x",
-            r.format(register).as_bytes(),
-            b", ",
-            n.format(number).as_bytes(),
-            b"(x",
-            b.format(base).as_bytes(),
-            b")",
-        ],
-    )
+    put(line, name);
+    put(line, b" ");
+    put_register(line, register);
+    put(line, b", ");
+    put_reference(line, number, base);
+}
+
+// `NUMBER(base)`
+fn put_reference(line: &mut Line, number: i64, base: u32)
+    requires { array_vec_len line.old ≤ 55 }
+    ensures text { line.new.items ≡ line.old.items ++ indexed_text number base }
+    ensures len { array_vec_len line.new ≤ array_vec_len line.old + 33 }
+{
+    put_number(line, number);
+    put(line, b"(");
+    put_register(line, base);
+    put(line, b")");
+}
+
+// `NAME a, b, `
+fn put_two(line: &mut Line, name: &[u8], a: u32, b: u32)
+    requires room { array_vec_len line.old ≤ 30 }
+    requires name { length name.now ≤ 6 }
+    ensures text { line.new.items ≡ line.old.items ++ (name.now ++ (codes " " ++ (register_text a ++ (codes ", " ++ (register_text b ++ codes ", "))))) }
+    ensures len { array_vec_len line.new ≤ array_vec_len line.old + 33 }
+{
+    put(line, name);
+    put(line, b" ");
+    put_register(line, a);
+    put(line, b", ");
+    put_register(line, b);
+    put(line, b", ");
 }
 
 // `NAME a, b, NUMBER`
-#[tactic(auto, using(crate::proofs::Pieces::append_nil))]
-fn put_two<K: Sink>(sink: &mut K, name: &[u8], a: u32, b: u32, number: i64) -> Result<(), Failed>
-    ensures ok { OnOk result (K.held sink.new ≡ put_after (K.held sink.old) (statement_text name.now (register_text a ∷ register_text b ∷ signed_decimal number ∷ []))) }
-    ensures err { OnErr result (AppendsFront (K.held sink.old) (K.held sink.new) (statement_text name.now (register_text a ∷ register_text b ∷ signed_decimal number ∷ []))) }
-    ensures later { K.faults sink.old ≤ K.faults sink.new }
-    ensures cause { OnErr result (Rose (K.faults sink.old) (K.faults sink.new)) }
+#[tactic(auto, using(crate::proofs::Pieces::three_joined))]
+fn put_immediate(line: &mut Line, name: &[u8], a: u32, b: u32, number: i64)
+    requires room { array_vec_len line.old ≤ 30 }
+    requires name { length name.now ≤ 6 }
+    ensures text { line.new.items ≡ line.old.items ++ statement_text name.now (register_text a ∷ register_text b ∷ signed_decimal number ∷ []) }
+    ensures len { array_vec_len line.new ≤ array_vec_len line.old + 60 }
 {
-    let mut first = Buffer::new();
-    let mut second = Buffer::new();
-    let mut n = Buffer::new();
-    put_pieces(
-        sink,
-        &[
-            name,
-            b" x",
-            first.format(a).as_bytes(),
-            b", x",
-            second.format(b).as_bytes(),
-            b", ",
-            n.format(number).as_bytes(),
-        ],
-    )
+    put_two(line, name, a, b);
+    put_number(line, number);
 }
 
 // `NAME a, b, c`
-#[tactic(auto, using(crate::proofs::Pieces::append_nil))]
-fn put_three<K: Sink>(sink: &mut K, name: &[u8], a: u32, b: u32, c: u32) -> Result<(), Failed>
-    ensures ok { OnOk result (K.held sink.new ≡ put_after (K.held sink.old) (statement_text name.now (register_text a ∷ register_text b ∷ register_text c ∷ []))) }
-    ensures err { OnErr result (AppendsFront (K.held sink.old) (K.held sink.new) (statement_text name.now (register_text a ∷ register_text b ∷ register_text c ∷ []))) }
-    ensures later { K.faults sink.old ≤ K.faults sink.new }
-    ensures cause { OnErr result (Rose (K.faults sink.old) (K.faults sink.new)) }
+#[tactic(auto, using(crate::proofs::Pieces::three_joined))]
+fn put_three(line: &mut Line, name: &[u8], a: u32, b: u32, c: u32)
+    requires room { array_vec_len line.old ≤ 30 }
+    requires name { length name.now ≤ 6 }
+    ensures text { line.new.items ≡ line.old.items ++ statement_text name.now (register_text a ∷ register_text b ∷ register_text c ∷ []) }
+    ensures len { array_vec_len line.new ≤ array_vec_len line.old + 60 }
 {
-    let mut first = Buffer::new();
-    let mut second = Buffer::new();
-    let mut third = Buffer::new();
-    put_pieces(
-        sink,
-        &[
-            name,
-            b" x",
-            first.format(a).as_bytes(),
-            b", x",
-            second.format(b).as_bytes(),
-            b", x",
-            third.format(c).as_bytes(),
-        ],
-    )
+    put_two(line, name, a, b);
+    put_register(line, c);
+}
+
+fn put_word(line: &mut Line, word: u32)
+    requires { array_vec_len line.old ≤ 30 }
+    ensures text { line.new.items ≡ line.old.items ++ word_text (Some word) }
+    ensures len { array_vec_len line.new ≤ array_vec_len line.old + 60 }
+{
+    let digits = word_digits(word);
+    put(line, b".word 0x");
+    put(line, &digits);
 }
 
 // The full fence has a name, another is its word.
-fn put_fence<K: Sink>(sink: &mut K, rd: u32, rs1: u32, imm: u32) -> Result<(), Failed>
-    requires { IsSome (word_of (Instr.Fence rd rs1 imm)) }
-    ensures ok { OnOk result (K.held sink.new ≡ put_after (K.held sink.old) (text_of (Instr.Fence rd rs1 imm))) }
-    ensures err { OnErr result (AppendsFront (K.held sink.old) (K.held sink.new) (text_of (Instr.Fence rd rs1 imm))) }
-    ensures later { K.faults sink.old ≤ K.faults sink.new }
-    ensures cause { OnErr result (Rose (K.faults sink.old) (K.faults sink.new)) }
+fn put_fence(line: &mut Line, rd: u32, rs1: u32, imm: u32)
+    requires room { array_vec_len line.old ≤ 30 }
+    requires word { IsSome (word_of (Instr.Fence rd rs1 imm)) }
+    ensures text { line.new.items ≡ line.old.items ++ text_of (Instr.Fence rd rs1 imm) }
+    ensures len { array_vec_len line.new ≤ array_vec_len line.old + 60 }
 {
     if rd == 0 && rs1 == 0 && imm == 0x0ff {
-        return put_all(sink, b"fence");
+        put(line, b"fence");
+        return;
     }
     let Some(word) = encode(&Instr::Fence { rd, rs1, imm }) else {
         unreachable!()
     };
-    put_word(sink, word)
+    put_word(line, word);
 }
 
-fn put_word<K: Sink>(sink: &mut K, word: u32) -> Result<(), Failed>
-    ensures ok { OnOk result (K.held sink.new ≡ put_after (K.held sink.old) (word_text (Some word))) }
-    ensures err { OnErr result (AppendsFront (K.held sink.old) (K.held sink.new) (word_text (Some word))) }
-    ensures later { K.faults sink.old ≤ K.faults sink.new }
-    ensures cause { OnErr result (Rose (K.faults sink.old) (K.faults sink.new)) }
+#[tactic(auto, using(crate::proofs::Pieces::branch_short, crate::proofs::Pieces::load_short, crate::proofs::Pieces::store_short, crate::proofs::Pieces::imm_short, crate::proofs::Pieces::shift_short, crate::proofs::Pieces::reg_short, crate::proofs::Pieces::mul_short))]
+fn put_instr(line: &mut Line, instr: &Instr)
+    requires room { array_vec_len line.old ≤ 30 }
+    requires word { IsSome (word_of instr.now) }
+    ensures text { line.new.items ≡ line.old.items ++ text_of instr.now }
+    ensures len { array_vec_len line.new ≤ array_vec_len line.old + 60 }
 {
-    let digits = hex_digits(word);
-    put_pieces(sink, &[b".word 0x", &digits])
+    match *instr {
+        Instr::Lui { rd, imm } => put_upper(line, b"lui", rd, imm),
+        Instr::Auipc { rd, imm } => put_upper(line, b"auipc", rd, imm),
+        Instr::Jal { rd, imm } => put_offset(line, b"jal", rd, i64::from(imm)),
+        Instr::Jalr { rd, rs1, imm } => put_indexed(line, b"jalr", rd, i64::from(imm), rs1),
+        Instr::Branch { op, rs1, rs2, imm } => {
+            put_immediate(line, op.name(), rs1, rs2, i64::from(imm))
+        }
+        Instr::Load { op, rd, rs1, imm } => put_indexed(line, op.name(), rd, i64::from(imm), rs1),
+        Instr::Store { op, rs1, rs2, imm } => {
+            put_indexed(line, op.name(), rs2, i64::from(imm), rs1)
+        }
+        Instr::Imm { op, rd, rs1, imm } => put_immediate(line, op.name(), rd, rs1, i64::from(imm)),
+        Instr::Shift { op, rd, rs1, shamt } => {
+            put_immediate(line, op.name(), rd, rs1, i64::from(shamt))
+        }
+        Instr::Reg { op, rd, rs1, rs2 } => put_three(line, op.name(), rd, rs1, rs2),
+        Instr::Mul { op, rd, rs1, rs2 } => put_three(line, op.name(), rd, rs1, rs2),
+        Instr::Fence { rd, rs1, imm } => put_fence(line, rd, rs1, imm),
+        Instr::Ecall => put(line, b"ecall"),
+        Instr::Ebreak => put(line, b"ebreak"),
+    }
+}
+
+/// Appends the listing's text of a word: that of its instruction, or `.word 0x` and eight digits where it has none.
+pub fn put_text(line: &mut Line, word: u32)
+    requires { array_vec_len line.old ≤ 30 }
+    ensures text { line.new.items ≡ line.old.items ++ shown_text word }
+    ensures len { array_vec_len line.new ≤ array_vec_len line.old + 60 }
+{
+    match decode(word) {
+        Some(instr) => put_instr(line, &instr),
+        None => put_word(line, word),
+    }
 }
 
 /// Appends the listing's text of an instruction: its name, and behind a space its operands with `, ` between them,
@@ -272,45 +224,10 @@ pub fn show<K: Sink>(instr: &Instr, sink: &mut K) -> Result<(), Failed>
     ensures ok { OnOk result (K.held sink.new ≡ put_after (K.held sink.old) (text_of instr.now)) }
     ensures err { OnErr result (AppendsFront (K.held sink.old) (K.held sink.new) (text_of instr.now)) }
     ensures later { K.faults sink.old ≤ K.faults sink.new }
-    ensures cause { OnErr result (Rose (K.faults sink.old) (K.faults sink.new)) }
+    ensures cause { OnErr result (FaultCountRose (K.faults sink.old) (K.faults sink.new)) }
+    ensures quiet { OnOk result (K.faults sink.new ≡ K.faults sink.old) }
 {
-    match *instr {
-        Instr::Lui { rd, imm } => put_upper(sink, b"lui", rd, imm),
-        Instr::Auipc { rd, imm } => put_upper(sink, b"auipc", rd, imm),
-        Instr::Jal { rd, imm } => put_number(sink, b"jal", rd, i64::from(imm)),
-        Instr::Jalr { rd, rs1, imm } => put_indexed(sink, b"jalr", rd, i64::from(imm), rs1),
-        Instr::Branch { op, rs1, rs2, imm } => put_two(
-            sink,
-            branch_name(op),
-            rs1,
-            rs2,
-            i64::from(imm),
-        ),
-        Instr::Load { op, rd, rs1, imm } => put_indexed(
-            sink,
-            load_name(op),
-            rd,
-            i64::from(imm),
-            rs1,
-        ),
-        Instr::Store { op, rs1, rs2, imm } => put_indexed(
-            sink,
-            store_name(op),
-            rs2,
-            i64::from(imm),
-            rs1,
-        ),
-        Instr::Imm { op, rd, rs1, imm } => put_two(sink, imm_name(op), rd, rs1, i64::from(imm)),
-        Instr::Shift { op, rd, rs1, shamt } => put_two(
-            sink,
-            shift_name(op),
-            rd,
-            rs1,
-            i64::from(shamt),
-        ),
-        Instr::Reg { op, rd, rs1, rs2 } => put_three(sink, reg_name(op), rd, rs1, rs2),
-        Instr::Fence { rd, rs1, imm } => put_fence(sink, rd, rs1, imm),
-        Instr::Ecall => put_all(sink, b"ecall"),
-        Instr::Ebreak => put_all(sink, b"ebreak"),
-    }
+    let mut line = Line::new();
+    put_instr(&mut line, instr);
+    put_all(sink, line.as_slice())
 }

@@ -6,7 +6,8 @@ use std::process::Abort;
 use std::test::Fail;
 
 // Every statement with numbers at the edges of their fields, and its bytes as LLVM's assembler (`llvm-mc
-// --triple=riscv32`) gives them.
+// --triple=riscv32`) gives them;
+// those of multiply and divide are the manual's fields, put together.
 const STATEMENTS: &[u8] = b".segment 0x80000000\n.entry main\nmain:\n\
 lui a0, 0x12345\n\
 lui x31, 0xfffff\n\
@@ -50,6 +51,14 @@ srl x19, x20, x21\n\
 sra x22, x23, x24\n\
 or x25, x26, x27\n\
 and x28, x29, x30\n\
+mul x1, x2, x3\n\
+mulh x4, x5, x6\n\
+mulhsu x7, x8, x9\n\
+mulhu x10, x11, x12\n\
+div x13, x14, x15\n\
+divu x16, x17, x18\n\
+rem x19, x20, x21\n\
+remu x22, x23, x24\n\
 fence\n\
 ecall\n\
 ebreak\n\
@@ -70,7 +79,9 @@ const STATEMENT_BYTES: &[u8] = b"\
 \xa3\xaf\x11\x7e\x63\x08\xb5\x00\xe3\x98\x20\xfe\xe3\xcf\x62\x7e\x63\x50\x39\x81\x63\x61\x18\x01\xe3\x7f\x5a\xff\x93\x00\x01\x80\
 \x93\x21\xf2\x7f\x93\x32\xf3\xff\x93\x43\x54\x55\x93\x64\xf5\x7f\x93\x75\x06\x00\x13\x15\xf5\x01\x93\x55\x06\x00\x93\x56\x17\x41\
 \xb3\x00\x31\x00\x33\x82\x62\x40\xb3\x13\x94\x00\x33\xa5\xc5\x00\xb3\x36\xf7\x00\x33\xc8\x28\x01\xb3\x59\x5a\x01\x33\xdb\x8b\x41\
-\xb3\x6c\xbd\x01\x33\xfe\xee\x01\x0f\x00\xf0\x0f\x73\x00\x00\x00\x73\x00\x10\x00\x13\x00\x00\x00\x13\x8b\x0b\x00\x13\x05\xf0\x7f\
+\xb3\x6c\xbd\x01\x33\xfe\xee\x01\
+\xb3\x00\x31\x02\x33\x92\x62\x02\xb3\x23\x94\x02\x33\xb5\xc5\x02\xb3\x46\xf7\x02\x33\xd8\x28\x03\xb3\x69\x5a\x03\x33\xfb\x8b\x03\
+\x0f\x00\xf0\x0f\x73\x00\x00\x00\x73\x00\x10\x00\x13\x00\x00\x00\x13\x8b\x0b\x00\x13\x05\xf0\x7f\
 \x93\x05\x00\x80\x13\x0c\x00\x00\x6f\x00\xc0\x00\x67\x80\x0c\x00\x67\x80\x00\x00\x63\x02\x0d\x00\xe3\x1c\x05\xfe";
 
 // The listing's text of each of these words.
@@ -117,6 +128,14 @@ srl x19, x20, x21\n\
 sra x22, x23, x24\n\
 or x25, x26, x27\n\
 and x28, x29, x30\n\
+mul x1, x2, x3\n\
+mulh x4, x5, x6\n\
+mulhsu x7, x8, x9\n\
+mulhu x10, x11, x12\n\
+div x13, x14, x15\n\
+divu x16, x17, x18\n\
+rem x19, x20, x21\n\
+remu x22, x23, x24\n\
 fence\n\
 ecall\n\
 ebreak\n\
@@ -370,6 +389,31 @@ fn faults_come_in_their_order(rt: HostRuntime) -> Result<(), Fail> {
             Err(fault) => assert_eq!(rt; fault, AsmFault::At { line, kind }),
         }
     }
+    Ok(())
+}
+
+// A thousand labels, each of which names itself.
+#[test]
+fn a_thousand_labels(rt: HostRuntime) -> Result<(), Fail> {
+    let mut text = Vec::new(rt.alloc());
+    text.extend_from_slice(b".segment 0\n.entry l999\n".as_slice())?;
+    for k in 0..1000u32 {
+        let line = format!(in rt.alloc(); "l{k}: .word l{k}\n")?;
+        text.extend_from_slice(line.as_str().as_bytes())?;
+    }
+    let Ok(program) = assemble(rt.alloc(), &text) else {
+        return Err("the text is refused".into());
+    };
+    let Some(segment) = program.segments.get(0) else {
+        return Err("the segment is missing".into());
+    };
+    let mut address = 0u32;
+    for word in segment.bytes.as_slice().chunks(4) {
+        assert!(rt; word == address.to_le_bytes().as_slice());
+        address = address.wrapping_add(4);
+    }
+    assert!(rt; address == 4000);
+    assert!(rt; program.entry == 3996);
     Ok(())
 }
 

@@ -1,113 +1,148 @@
 -- The effects by the decoder's instructions are those by the rows of the listing.
-use Rattle.std.proofs.Common.{◌≡◌, ℕ, ◌/◌, ◌^◌, ◌<◌, List, refl}
+use Rattle.std.proofs.Common.{◌≡◌, ℕ, ◌/◌, ◌^◌, ◌<◌, List, Option, Some, None, refl, sym, ap, ◌∙◌, subst}
+use Rattle.std.specs.Option.{option_map}
 use Rattle.std.proofs.Math.Nat.{mod-lt}
 use Rattle.std.proofs.lemmas.Nat.{pow_pos}
+use Rattle.std.proofs.lemmas.Option.{same_Some, none-some}
 use Rattle.rv_decode.specs.declared.instruction.Instr.{Instr}
-use Rattle.rv_decode.specs.declared.instruction.Instr.TheVariants.{Lui, Auipc, Jal, Jalr, Branch, Load, Store, Imm, Shift, Reg, Fence, Ecall, Ebreak}
-use Rattle.rv_decode.specs.declared.instruction.BranchOp.{BranchOp}
-use Rattle.rv_decode.specs.declared.instruction.BranchOp.TheVariants.{Beq, Bne, Blt, Bge, Bltu, Bgeu}
-use Rattle.rv_decode.specs.declared.instruction.LoadOp.{LoadOp}
-use Rattle.rv_decode.specs.declared.instruction.LoadOp.TheVariants.{Lb, Lh, Lw, Lbu, Lhu}
-use Rattle.rv_decode.specs.declared.instruction.StoreOp.{StoreOp}
-use Rattle.rv_decode.specs.declared.instruction.StoreOp.TheVariants.{Sb, Sh, Sw}
-use Rattle.rv_decode.specs.declared.instruction.ImmOp.{ImmOp}
-use Rattle.rv_decode.specs.declared.instruction.ImmOp.TheVariants.{Addi, Slti, Sltiu, Xori, Ori, Andi}
-use Rattle.rv_decode.specs.declared.instruction.ShiftOp.{ShiftOp}
-use Rattle.rv_decode.specs.declared.instruction.ShiftOp.TheVariants.{Slli, Srli, Srai}
-use Rattle.rv_decode.specs.declared.instruction.RegOp.{RegOp}
-use Rattle.rv_decode.specs.declared.instruction.RegOp.TheVariants.{Add, Sub, Sll, Slt, Sltu, Xor, Srl, Sra, Or, And}
-use Rattle.rv_decode.specs.Fields.{field, rd, rs1, rs2, imm_i, imm_s, imm_b}
-use Rattle.rv_decode.specs.Words.{branch_row, load_row, store_row, imm_row, shift_row, reg_row, HasFields, IsInstruction}
-use Rattle.rv_core.specs.Effects.{row_effect, effect_of}
+use Rattle.rv_decode.specs.Fields.{field}
+use Rattle.rv_decode.specs.Table.{Row, LUI, AUIPC, JAL, JALR, BEQ, BNE, BLT, BGE, BLTU, BGEU, LB, LH, LW, LBU, LHU, SB, SH, SW, ADDI, SLTI, SLTIU, XORI, ORI, ANDI, SLLI, SRLI, SRAI, ADD, SUB, SLL, SLT, SLTU, XOR, SRL, SRA, OR, AND, FENCE, ECALL, EBREAK, MUL, MULH, MULHSU, MULHU, DIV, DIVU, REM, REMU, row_of}
+use Rattle.rv_decode.specs.Words.{instr_in, instr_of}
+use Rattle.rv_core.specs.declared.waits.TrapKind.TheVariants.{Illegal}
+use Rattle.rv_core.specs.declared.waits.Effect.TheVariants.{Traps}
+use Rattle.rv_core.specs.Effects.{row_effect, effect_at, effect_of}
 use Rattle.rv_core.specs.Decoded.{instr_effect, HasRegisters}
 
-branch_rows : (op : BranchOp) (word : ℕ) (x : List ℕ) (pc : ℕ)
-    → row_effect (branch_row op) word x pc ≡ instr_effect (Branch op (rs1 word) (rs2 word) (imm_b word)) x pc
-branch_rows Beq word x pc = refl
-branch_rows Bne word x pc = refl
-branch_rows Blt word x pc = refl
-branch_rows Bge word x pc = refl
-branch_rows Bltu word x pc = refl
-branch_rows Bgeu word x pc = refl
+row_is : (row : Row) (word : ℕ) (x : List ℕ) (pc : ℕ) → row_effect row word x pc ≡ instr_effect (instr_in row word) x pc
+row_is LUI word x pc = refl
+row_is AUIPC word x pc = refl
+row_is JAL word x pc = refl
+row_is JALR word x pc = refl
+row_is BEQ word x pc = refl
+row_is BNE word x pc = refl
+row_is BLT word x pc = refl
+row_is BGE word x pc = refl
+row_is BLTU word x pc = refl
+row_is BGEU word x pc = refl
+row_is LB word x pc = refl
+row_is LH word x pc = refl
+row_is LW word x pc = refl
+row_is LBU word x pc = refl
+row_is LHU word x pc = refl
+row_is SB word x pc = refl
+row_is SH word x pc = refl
+row_is SW word x pc = refl
+row_is ADDI word x pc = refl
+row_is SLTI word x pc = refl
+row_is SLTIU word x pc = refl
+row_is XORI word x pc = refl
+row_is ORI word x pc = refl
+row_is ANDI word x pc = refl
+row_is SLLI word x pc = refl
+row_is SRLI word x pc = refl
+row_is SRAI word x pc = refl
+row_is ADD word x pc = refl
+row_is SUB word x pc = refl
+row_is SLL word x pc = refl
+row_is SLT word x pc = refl
+row_is SLTU word x pc = refl
+row_is XOR word x pc = refl
+row_is SRL word x pc = refl
+row_is SRA word x pc = refl
+row_is OR word x pc = refl
+row_is AND word x pc = refl
+row_is FENCE word x pc = refl
+row_is ECALL word x pc = refl
+row_is EBREAK word x pc = refl
+row_is MUL word x pc = refl
+row_is MULH word x pc = refl
+row_is MULHSU word x pc = refl
+row_is MULHU word x pc = refl
+row_is DIV word x pc = refl
+row_is DIVU word x pc = refl
+row_is REM word x pc = refl
+row_is REMU word x pc = refl
 
-load_rows : (op : LoadOp) (word : ℕ) (x : List ℕ) (pc : ℕ)
-    → row_effect (load_row op) word x pc ≡ instr_effect (Load op (rd word) (rs1 word) (imm_i word)) x pc
-load_rows Lb word x pc = refl
-load_rows Lh word x pc = refl
-load_rows Lw word x pc = refl
-load_rows Lbu word x pc = refl
-load_rows Lhu word x pc = refl
-
-store_rows : (op : StoreOp) (word : ℕ) (x : List ℕ) (pc : ℕ)
-    → row_effect (store_row op) word x pc ≡ instr_effect (Store op (rs1 word) (rs2 word) (imm_s word)) x pc
-store_rows Sb word x pc = refl
-store_rows Sh word x pc = refl
-store_rows Sw word x pc = refl
-
-imm_rows : (op : ImmOp) (word : ℕ) (x : List ℕ) (pc : ℕ)
-    → row_effect (imm_row op) word x pc ≡ instr_effect (Imm op (rd word) (rs1 word) (imm_i word)) x pc
-imm_rows Addi word x pc = refl
-imm_rows Slti word x pc = refl
-imm_rows Sltiu word x pc = refl
-imm_rows Xori word x pc = refl
-imm_rows Ori word x pc = refl
-imm_rows Andi word x pc = refl
-
-shift_rows : (op : ShiftOp) (word : ℕ) (x : List ℕ) (pc : ℕ)
-    → row_effect (shift_row op) word x pc ≡ instr_effect (Shift op (rd word) (rs1 word) (rs2 word)) x pc
-shift_rows Slli word x pc = refl
-shift_rows Srli word x pc = refl
-shift_rows Srai word x pc = refl
-
-reg_rows : (op : RegOp) (word : ℕ) (x : List ℕ) (pc : ℕ)
-    → row_effect (reg_row op) word x pc ≡ instr_effect (Reg op (rd word) (rs1 word) (rs2 word)) x pc
-reg_rows Add word x pc = refl
-reg_rows Sub word x pc = refl
-reg_rows Sll word x pc = refl
-reg_rows Slt word x pc = refl
-reg_rows Sltu word x pc = refl
-reg_rows Xor word x pc = refl
-reg_rows Srl word x pc = refl
-reg_rows Sra word x pc = refl
-reg_rows Or word x pc = refl
-reg_rows And word x pc = refl
+effect_is : (word : ℕ) (row : Option Row) (instr : Instr) (x : List ℕ) (pc : ℕ) → option_map (λ r. instr_in r word) row ≡ Some instr
+    → effect_at row word x pc ≡ instr_effect instr x pc
+effect_is word None instr x pc h = absurd (none-some _ h)
+effect_is word (Some row) instr x pc h = row_is row word x pc ∙ ap (λ i. instr_effect i x pc) (same_Some _ _ h)
 
 -- the effect of a word is that of its instruction
-pub decoded_effect : (word : ℕ) (instr : Instr) (x : List ℕ) (pc : ℕ) → IsInstruction word instr
+pub decoded_effect : (word : ℕ) (instr : Instr) (x : List ℕ) (pc : ℕ) → instr_of word ≡ Some instr
     → effect_of word x pc ≡ instr_effect instr x pc
-decoded_effect word (Lui d imm) x pc h = rw h.row (rw (h.fields.0, h.fields.1) refl)
-decoded_effect word (Auipc d imm) x pc h = rw h.row (rw (h.fields.0, h.fields.1) refl)
-decoded_effect word (Jal d imm) x pc h = rw h.row (rw (h.fields.0, h.fields.1) refl)
-decoded_effect word (Jalr d a imm) x pc h = rw h.row (rw (h.fields.0, h.fields.1, h.fields.2) refl)
-decoded_effect word (Branch op a b imm) x pc h = rw h.row (rw (h.fields.0, h.fields.1, h.fields.2) (branch_rows op word x pc))
-decoded_effect word (Load op d a imm) x pc h = rw h.row (rw (h.fields.0, h.fields.1, h.fields.2) (load_rows op word x pc))
-decoded_effect word (Store op a b imm) x pc h = rw h.row (rw (h.fields.0, h.fields.1, h.fields.2) (store_rows op word x pc))
-decoded_effect word (Imm op d a imm) x pc h = rw h.row (rw (h.fields.0, h.fields.1, h.fields.2) (imm_rows op word x pc))
-decoded_effect word (Shift op d a shamt) x pc h = rw h.row (rw (h.fields.0, h.fields.1, h.fields.2) (shift_rows op word x pc))
-decoded_effect word (Reg op d a b) x pc h = rw h.row (rw (h.fields.0, h.fields.1, h.fields.2) (reg_rows op word x pc))
-decoded_effect word (Fence d a imm) x pc h = rw h.row refl
-decoded_effect word Ecall x pc h = rw h.row refl
-decoded_effect word Ebreak x pc h = rw h.row refl
+unfolding instr_of
+decoded_effect word instr x pc h = effect_is word (row_of word) instr x pc h
+
+no_effect : (word : ℕ) (row : Option Row) (x : List ℕ) (pc : ℕ) → option_map (λ r. instr_in r word) row ≡ None
+    → effect_at row word x pc ≡ Traps Illegal
+no_effect word None x pc h = refl
+no_effect word (Some row) x pc h = absurd (none-some _ (sym h))
+
+-- a word without an instruction is illegal
+pub illegal_effect : (word : ℕ) (x : List ℕ) (pc : ℕ) → instr_of word ≡ None → effect_of word x pc ≡ Traps Illegal
+unfolding instr_of
+illegal_effect word x pc h = no_effect word (row_of word) x pc h
 
 -- a field of so many bits
-below_field : (low count word n : ℕ) → n ≡ field low count word → n < 2 ^ count
-below_field low count word n h = rw h (mod-lt (word / 2 ^ low) (pow_pos count))
+field_small : (low count word : ℕ) → field low count word < 2 ^ count
+field_small low count word = mod-lt (word / 2 ^ low) (pow_pos count)
 
 -- the fields of a word's instruction are in their ranges
-fields_registers : (word : ℕ) (instr : Instr) → HasFields word instr → HasRegisters instr
-fields_registers word (Lui d imm) h = (below_field 7 5 word d h.0, below_field 12 20 word imm h.1)
-fields_registers word (Auipc d imm) h = (below_field 7 5 word d h.0, below_field 12 20 word imm h.1)
-fields_registers word (Jal d imm) h = below_field 7 5 word d h.0
-fields_registers word (Jalr d a imm) h = (below_field 7 5 word d h.0, below_field 15 5 word a h.1)
-fields_registers word (Branch op a b imm) h = (below_field 15 5 word a h.0, below_field 20 5 word b h.1)
-fields_registers word (Load op d a imm) h = (below_field 7 5 word d h.0, below_field 15 5 word a h.1)
-fields_registers word (Store op a b imm) h = (below_field 15 5 word a h.0, below_field 20 5 word b h.1)
-fields_registers word (Imm op d a imm) h = (below_field 7 5 word d h.0, below_field 15 5 word a h.1)
-fields_registers word (Shift op d a shamt) h = (below_field 7 5 word d h.0, below_field 15 5 word a h.1, below_field 20 5 word shamt h.2)
-fields_registers word (Reg op d a b) h = (below_field 7 5 word d h.0, below_field 15 5 word a h.1, below_field 20 5 word b h.2)
-fields_registers word (Fence d a imm) h = tt
-fields_registers word Ecall h = tt
-fields_registers word Ebreak h = tt
+row_registers : (row : Row) (word : ℕ) → HasRegisters (instr_in row word)
+row_registers LUI word = (field_small 7 5 word, field_small 12 20 word)
+row_registers AUIPC word = (field_small 7 5 word, field_small 12 20 word)
+row_registers JAL word = field_small 7 5 word
+row_registers JALR word = (field_small 7 5 word, field_small 15 5 word)
+row_registers BEQ word = (field_small 15 5 word, field_small 20 5 word)
+row_registers BNE word = (field_small 15 5 word, field_small 20 5 word)
+row_registers BLT word = (field_small 15 5 word, field_small 20 5 word)
+row_registers BGE word = (field_small 15 5 word, field_small 20 5 word)
+row_registers BLTU word = (field_small 15 5 word, field_small 20 5 word)
+row_registers BGEU word = (field_small 15 5 word, field_small 20 5 word)
+row_registers LB word = (field_small 7 5 word, field_small 15 5 word)
+row_registers LH word = (field_small 7 5 word, field_small 15 5 word)
+row_registers LW word = (field_small 7 5 word, field_small 15 5 word)
+row_registers LBU word = (field_small 7 5 word, field_small 15 5 word)
+row_registers LHU word = (field_small 7 5 word, field_small 15 5 word)
+row_registers SB word = (field_small 15 5 word, field_small 20 5 word)
+row_registers SH word = (field_small 15 5 word, field_small 20 5 word)
+row_registers SW word = (field_small 15 5 word, field_small 20 5 word)
+row_registers ADDI word = (field_small 7 5 word, field_small 15 5 word)
+row_registers SLTI word = (field_small 7 5 word, field_small 15 5 word)
+row_registers SLTIU word = (field_small 7 5 word, field_small 15 5 word)
+row_registers XORI word = (field_small 7 5 word, field_small 15 5 word)
+row_registers ORI word = (field_small 7 5 word, field_small 15 5 word)
+row_registers ANDI word = (field_small 7 5 word, field_small 15 5 word)
+row_registers SLLI word = (field_small 7 5 word, field_small 15 5 word, field_small 20 5 word)
+row_registers SRLI word = (field_small 7 5 word, field_small 15 5 word, field_small 20 5 word)
+row_registers SRAI word = (field_small 7 5 word, field_small 15 5 word, field_small 20 5 word)
+row_registers ADD word = (field_small 7 5 word, field_small 15 5 word, field_small 20 5 word)
+row_registers SUB word = (field_small 7 5 word, field_small 15 5 word, field_small 20 5 word)
+row_registers SLL word = (field_small 7 5 word, field_small 15 5 word, field_small 20 5 word)
+row_registers SLT word = (field_small 7 5 word, field_small 15 5 word, field_small 20 5 word)
+row_registers SLTU word = (field_small 7 5 word, field_small 15 5 word, field_small 20 5 word)
+row_registers XOR word = (field_small 7 5 word, field_small 15 5 word, field_small 20 5 word)
+row_registers SRL word = (field_small 7 5 word, field_small 15 5 word, field_small 20 5 word)
+row_registers SRA word = (field_small 7 5 word, field_small 15 5 word, field_small 20 5 word)
+row_registers OR word = (field_small 7 5 word, field_small 15 5 word, field_small 20 5 word)
+row_registers AND word = (field_small 7 5 word, field_small 15 5 word, field_small 20 5 word)
+row_registers FENCE word = tt
+row_registers ECALL word = tt
+row_registers EBREAK word = tt
+row_registers MUL word = (field_small 7 5 word, field_small 15 5 word, field_small 20 5 word)
+row_registers MULH word = (field_small 7 5 word, field_small 15 5 word, field_small 20 5 word)
+row_registers MULHSU word = (field_small 7 5 word, field_small 15 5 word, field_small 20 5 word)
+row_registers MULHU word = (field_small 7 5 word, field_small 15 5 word, field_small 20 5 word)
+row_registers DIV word = (field_small 7 5 word, field_small 15 5 word, field_small 20 5 word)
+row_registers DIVU word = (field_small 7 5 word, field_small 15 5 word, field_small 20 5 word)
+row_registers REM word = (field_small 7 5 word, field_small 15 5 word, field_small 20 5 word)
+row_registers REMU word = (field_small 7 5 word, field_small 15 5 word, field_small 20 5 word)
 
-pub decoded_registers : (word : ℕ) (instr : Instr) → IsInstruction word instr → HasRegisters instr
-decoded_registers word instr h = fields_registers word instr h.fields
+registers_are : (word : ℕ) (row : Option Row) (instr : Instr) → option_map (λ r. instr_in r word) row ≡ Some instr → HasRegisters instr
+registers_are word None instr h = absurd (none-some _ h)
+registers_are word (Some row) instr h = subst HasRegisters (same_Some _ _ h) (row_registers row word)
+
+pub decoded_registers : (word : ℕ) (instr : Instr) → instr_of word ≡ Some instr → HasRegisters instr
+unfolding instr_of
+decoded_registers word instr h = registers_are word (row_of word) instr h

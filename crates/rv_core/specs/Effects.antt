@@ -1,13 +1,14 @@
--- What each word of RV32I does: RISC-V Unprivileged ISA, chapter "RV32I Base Integer Instruction Set". One clause
--- for each row of the manual's listing, on the word's numeric fields. `x` is the list of the 32 registers, of which
+-- What each word of RV32IM does: RISC-V Unprivileged ISA, chapters "RV32I Base Integer Instruction Set" and "M
+-- Standard Extension for Integer Multiplication and Division". One clause for each row of the manual's listing, on the
+-- word's numeric fields. `x` is the list of the 32 registers, of which
 -- x0 is 0, and `pc` the address of the word.
-use Rattle.std.specs.Prelude.{ℕ, ◌+◌, ◌-◌, ◌*◌, ◌/◌, ◌%◌, ◌^◌, ℤ, Bool, true, false, not, ◌==◌, nat_le, nat_lt, int_le, int_lt, bit_and, bit_or, bit_xor, if◌then◌else◌, List, slice_index, slice_set, Option, Some, None}
-use Rattle.std.specs.Int.{w32, cast_signed, cast_unsigned, int_shr}
+use Rattle.std.specs.Prelude.{ℕ, ◌+◌, ◌-◌, ◌*◌, ◌/◌, ◌%◌, ◌^◌, ℤ, pos, ◌*ℤ◌, int_div, int_rem, Bool, true, false, not, ◌==◌, nat_le, nat_lt, int_le, int_lt, bit_and, bit_or, bit_xor, if◌then◌else◌, List, slice_index, slice_set, Option, Some, None}
+use Rattle.std.specs.Int.{w32, w64, cast_signed, cast_unsigned, int_shr}
 use Rattle.history.specs.declared.events.Width.{Width}
 use Rattle.history.specs.declared.events.Width.TheVariants.{Byte, Half, Word}
 use Rattle.history.specs.Layout.{width_bytes}
 use Rattle.rv_decode.specs.Fields.{rd, rs1, rs2, signed, imm_i, imm_s, imm_b, imm_u, imm_j}
-use Rattle.rv_decode.specs.Table.{Row, LUI, AUIPC, JAL, JALR, BEQ, BNE, BLT, BGE, BLTU, BGEU, LB, LH, LW, LBU, LHU, SB, SH, SW, ADDI, SLTI, SLTIU, XORI, ORI, ANDI, SLLI, SRLI, SRAI, ADD, SUB, SLL, SLT, SLTU, XOR, SRL, SRA, OR, AND, FENCE, ECALL, EBREAK, row_of}
+use Rattle.rv_decode.specs.Table.{Row, LUI, AUIPC, JAL, JALR, BEQ, BNE, BLT, BGE, BLTU, BGEU, LB, LH, LW, LBU, LHU, SB, SH, SW, ADDI, SLTI, SLTIU, XORI, ORI, ANDI, SLLI, SRLI, SRAI, ADD, SUB, SLL, SLT, SLTU, XOR, SRL, SRA, OR, AND, FENCE, ECALL, EBREAK, MUL, MULH, MULHSU, MULHU, DIV, DIVU, REM, REMU, row_of}
 use Rattle.rv_core.specs.declared.waits.TrapKind.{TrapKind}
 use Rattle.rv_core.specs.declared.waits.TrapKind.TheVariants.{Illegal, FetchAccess, FetchMisaligned, LoadAccess, LoadMisaligned, StoreAccess, StoreMisaligned, Breakpoint, UnknownCall}
 use Rattle.rv_core.specs.declared.waits.Effect.{Effect}
@@ -38,8 +39,8 @@ difference a b = (a + (2 ^ 32 - b)) % 2 ^ 32
 abbrev pub bits_of : ℤ → ℕ
 bits_of z = cast_unsigned w32 z
 
-abbrev pub number_of : ℕ → ℤ
-number_of a = cast_signed w32 a
+abbrev pub signed_of : ℕ → ℤ
+signed_of a = cast_signed w32 a
 
 -- the shifts by so many bits: to the left, to the right with zeros, to the right with the sign
 abbrev pub shifted_left : ℕ → ℕ → ℕ
@@ -49,14 +50,37 @@ abbrev pub shifted_right : ℕ → ℕ → ℕ
 shifted_right a by = a / 2 ^ by
 
 abbrev pub shifted_right_signed : ℕ → ℕ → ℕ
-shifted_right_signed a by = bits_of (int_shr (number_of a) by)
+shifted_right_signed a by = bits_of (int_shr (signed_of a) by)
 
 -- the comparisons of two's complement numbers
 abbrev pub is_less_signed : ℕ → ℕ → Bool
-is_less_signed a b = int_lt (number_of a) (number_of b)
+is_less_signed a b = int_lt (signed_of a) (signed_of b)
 
 abbrev pub is_at_most_signed : ℕ → ℕ → Bool
-is_at_most_signed a b = int_le (number_of a) (number_of b)
+is_at_most_signed a b = int_le (signed_of a) (signed_of b)
+
+-- a * b, its lowest 32 bits
+abbrev pub product : ℕ → ℕ → ℕ
+product a b = (a * b) % 2 ^ 32
+
+-- the upper 32 of the 64 bits of a product
+abbrev pub upper_bits : ℤ → ℕ
+upper_bits z = cast_unsigned w64 z / 2 ^ 32
+
+-- the quotients, rounded towards zero; a quotient by zero has all bits set. The signed one of -2^31 by -1 is 2^31, whose
+-- bits are those of -2^31.
+abbrev pub quotient : ℕ → ℕ → ℕ
+quotient a b = if b == 0 then 2 ^ 32 - 1 else a / b
+
+abbrev pub quotient_signed : ℕ → ℕ → ℕ
+quotient_signed a b = if b == 0 then 2 ^ 32 - 1 else bits_of (int_div (signed_of a) (signed_of b))
+
+-- the remainders of these quotients, of which the signed one has the dividend's sign; by zero they are the dividend
+abbrev pub remainder : ℕ → ℕ → ℕ
+remainder a b = if b == 0 then a else a % b
+
+abbrev pub remainder_signed : ℕ → ℕ → ℕ
+remainder_signed a b = if b == 0 then a else bits_of (int_rem (signed_of a) (signed_of b))
 
 -- 1 where the test holds, else 0
 abbrev pub one_if : Bool → ℕ
@@ -89,25 +113,25 @@ abbrev pub puts : ℕ → ℕ → ℕ → Effect
 puts word pc value = Writes (rd word) value (next pc)
 
 -- a jump to this address, with pc + 4 in rd; the target of a jump is divisible by 4, or the jump traps
-abbrev pub jumps : ℕ → ℕ → ℕ → Effect
-jumps d pc target = if target % 4 == 0 then Writes d (next pc) target else Traps FetchMisaligned
+abbrev pub jump_effect : ℕ → ℕ → ℕ → Effect
+jump_effect d pc target = if target % 4 == 0 then Writes d (next pc) target else Traps FetchMisaligned
 
 -- a branch to this address, if it is taken; one that isn't taken never traps
-abbrev pub branches : Bool → ℕ → ℕ → Effect
-branches taken pc target =
+abbrev pub branch_effect : Bool → ℕ → ℕ → Effect
+branch_effect taken pc target =
     if taken then (if target % 4 == 0 then Goes target else Traps FetchMisaligned) else Goes (next pc)
 
 -- a branch by the word's offset
-abbrev pub branches_by : Bool → ℕ → ℕ → Effect
-branches_by taken word pc = branches taken pc (sum pc (bits_of (imm_b word)))
+abbrev pub branch_by_offset : Bool → ℕ → ℕ → Effect
+branch_by_offset taken word pc = branch_effect taken pc (sum pc (bits_of (imm_b word)))
 
 -- a load from rs1 + imm for rd
-abbrev pub loads : Width → Bool → ℕ → List ℕ → Effect
-loads width is_signed word x = Loads width is_signed (sum (rs1_value word x) (bits_of (imm_i word))) (rd word)
+abbrev pub load_effect : Width → Bool → ℕ → List ℕ → Effect
+load_effect width is_signed word x = Loads width is_signed (sum (rs1_value word x) (bits_of (imm_i word))) (rd word)
 
 -- a store of the lowest bytes of rs2 at rs1 + imm
-abbrev pub stores : Width → ℕ → List ℕ → Effect
-stores width word x =
+abbrev pub store_effect : Width → ℕ → List ℕ → Effect
+store_effect width word x =
     Stores width (sum (rs1_value word x) (bits_of (imm_s word))) (rs2_value word x % 256 ^ width_bytes width)
 
 -- ---- the rows
@@ -117,27 +141,27 @@ abbrev pub row_effect : Row → ℕ → List ℕ → ℕ → Effect
 row_effect LUI word x pc = puts word pc (imm_u word * 2 ^ 12)
 row_effect AUIPC word x pc = puts word pc (sum pc (imm_u word * 2 ^ 12))
 -- "Unconditional Jumps"; JALR clears bit 0 of its target
-row_effect JAL word x pc = jumps (rd word) pc (sum pc (bits_of (imm_j word)))
-row_effect JALR word x pc = jumps (rd word) pc (sum (rs1_value word x) (bits_of (imm_i word)) / 2 * 2)
+row_effect JAL word x pc = jump_effect (rd word) pc (sum pc (bits_of (imm_j word)))
+row_effect JALR word x pc = jump_effect (rd word) pc (sum (rs1_value word x) (bits_of (imm_i word)) / 2 * 2)
 -- "Conditional Branches"
-row_effect BEQ word x pc = branches_by (rs1_value word x == rs2_value word x) word pc
-row_effect BNE word x pc = branches_by (not (rs1_value word x == rs2_value word x)) word pc
-row_effect BLT word x pc = branches_by (is_less_signed (rs1_value word x) (rs2_value word x)) word pc
-row_effect BGE word x pc = branches_by (is_at_most_signed (rs2_value word x) (rs1_value word x)) word pc
-row_effect BLTU word x pc = branches_by (nat_lt (rs1_value word x) (rs2_value word x)) word pc
-row_effect BGEU word x pc = branches_by (nat_le (rs2_value word x) (rs1_value word x)) word pc
+row_effect BEQ word x pc = branch_by_offset (rs1_value word x == rs2_value word x) word pc
+row_effect BNE word x pc = branch_by_offset (not (rs1_value word x == rs2_value word x)) word pc
+row_effect BLT word x pc = branch_by_offset (is_less_signed (rs1_value word x) (rs2_value word x)) word pc
+row_effect BGE word x pc = branch_by_offset (is_at_most_signed (rs2_value word x) (rs1_value word x)) word pc
+row_effect BLTU word x pc = branch_by_offset (nat_lt (rs1_value word x) (rs2_value word x)) word pc
+row_effect BGEU word x pc = branch_by_offset (nat_le (rs2_value word x) (rs1_value word x)) word pc
 -- "Load and Store Instructions"
-row_effect LB word x pc = loads Byte true word x
-row_effect LH word x pc = loads Half true word x
-row_effect LW word x pc = loads Word false word x
-row_effect LBU word x pc = loads Byte false word x
-row_effect LHU word x pc = loads Half false word x
-row_effect SB word x pc = stores Byte word x
-row_effect SH word x pc = stores Half word x
-row_effect SW word x pc = stores Word word x
+row_effect LB word x pc = load_effect Byte true word x
+row_effect LH word x pc = load_effect Half true word x
+row_effect LW word x pc = load_effect Word false word x
+row_effect LBU word x pc = load_effect Byte false word x
+row_effect LHU word x pc = load_effect Half false word x
+row_effect SB word x pc = store_effect Byte word x
+row_effect SH word x pc = store_effect Half word x
+row_effect SW word x pc = store_effect Word word x
 -- "Integer Register-Immediate Instructions"
 row_effect ADDI word x pc = puts word pc (sum (rs1_value word x) (bits_of (imm_i word)))
-row_effect SLTI word x pc = puts word pc (one_if (int_lt (number_of (rs1_value word x)) (imm_i word)))
+row_effect SLTI word x pc = puts word pc (one_if (int_lt (signed_of (rs1_value word x)) (imm_i word)))
 row_effect SLTIU word x pc = puts word pc (one_if (nat_lt (rs1_value word x) (bits_of (imm_i word))))
 row_effect XORI word x pc = puts word pc (bit_xor (rs1_value word x) (bits_of (imm_i word)))
 row_effect ORI word x pc = puts word pc (bit_or (rs1_value word x) (bits_of (imm_i word)))
@@ -161,6 +185,16 @@ row_effect FENCE word x pc = Goes (next pc)
 -- "Environment Call and Breakpoints"
 row_effect ECALL word x pc = Calls
 row_effect EBREAK word x pc = Traps Breakpoint
+-- "Multiplication Operations": both factors signed, or only rs1, or none
+row_effect MUL word x pc = puts word pc (product (rs1_value word x) (rs2_value word x))
+row_effect MULH word x pc = puts word pc (upper_bits (signed_of (rs1_value word x) *ℤ signed_of (rs2_value word x)))
+row_effect MULHSU word x pc = puts word pc (upper_bits (signed_of (rs1_value word x) *ℤ pos (rs2_value word x)))
+row_effect MULHU word x pc = puts word pc (upper_bits (pos (rs1_value word x) *ℤ pos (rs2_value word x)))
+-- "Division Operations"
+row_effect DIV word x pc = puts word pc (quotient_signed (rs1_value word x) (rs2_value word x))
+row_effect DIVU word x pc = puts word pc (quotient (rs1_value word x) (rs2_value word x))
+row_effect REM word x pc = puts word pc (remainder_signed (rs1_value word x) (rs2_value word x))
+row_effect REMU word x pc = puts word pc (remainder (rs1_value word x) (rs2_value word x))
 
 -- the effect of a word with this row; a word of no row is illegal
 abbrev pub effect_at : Option Row → ℕ → List ℕ → ℕ → Effect

@@ -6,8 +6,8 @@ ghost use Rattle.rv_core.specs.Effects as spec;
 ghost use Rattle.rv_core.specs.Decoded.{instr_effect, HasRegisters, IsProperEffect, store_width};
 
 use crate::values::{
-    immediate_result, register_result, shift_result, signed_load, taken, width_of_load,
-    width_of_store,
+    immediate_result, multiply_result, register_result, shift_result, signed_load, taken,
+    width_of_load, width_of_store,
 };
 use crate::waits::{Effect, TrapKind};
 use history::Width;
@@ -26,7 +26,7 @@ pub fn next_word(pc: u32) -> u32
 fn jump(rd: u32, pc: u32, target: u32) -> Effect
     requires register { rd < 32 }
     requires on_word { pc % 4 ≡ 0 }
-    ensures value { result ≡ spec.jumps rd pc target }
+    ensures value { result ≡ spec.jump_effect rd pc target }
     ensures proper { IsProperEffect result }
 {
     if target % 4 != 0 {
@@ -42,7 +42,7 @@ fn jump(rd: u32, pc: u32, target: u32) -> Effect
 // A branch; one that isn't taken never traps.
 fn branch(is_taken: bool, pc: u32, target: u32) -> Effect
     requires { pc % 4 ≡ 0 }
-    ensures value { result ≡ spec.branches is_taken pc target }
+    ensures value { result ≡ spec.branch_effect is_taken pc target }
     ensures proper { IsProperEffect result }
 {
     if !is_taken {
@@ -132,6 +132,11 @@ fn executed(instr: Instr, x: &[u32; 32], pc: u32) -> Effect
             value: register_result(op, x[rs1 as usize], x[rs2 as usize]),
             pc: next_word(pc),
         },
+        Instr::Mul { op, rd, rs1, rs2 } => Effect::Writes {
+            rd,
+            value: multiply_result(op, x[rs1 as usize], x[rs2 as usize]),
+            pc: next_word(pc),
+        },
         Instr::Fence { .. } => Effect::Goes { pc: next_word(pc) },
         Instr::Ecall => Effect::Calls,
         Instr::Ebreak => Effect::Traps(TrapKind::Breakpoint),
@@ -139,7 +144,7 @@ fn executed(instr: Instr, x: &[u32; 32], pc: u32) -> Effect
 }
 
 /// The effect of a word on the registers `x` at `pc`.
-#[tactic(auto, using(crate::proofs::DecodedLaws::decoded_effect, crate::proofs::DecodedLaws::decoded_registers))]
+#[tactic(auto, using(crate::proofs::DecodedLaws::decoded_effect, crate::proofs::DecodedLaws::illegal_effect, crate::proofs::DecodedLaws::decoded_registers))]
 pub fn effect_of(word: u32, x: &[u32; 32], pc: u32) -> Effect
     requires { pc % 4 ≡ 0 }
     ensures value { result ≡ spec.effect_of word x.now pc }

@@ -1,14 +1,19 @@
 // The laws of runs. Each is a fact about the definitions alone, so its function does nothing.
 
-ghost use Rattle.std.specs.Prelude.{◌≡◌, List, ◌++◌, option_and_then};
+ghost use Rattle.std.specs.Prelude.{◌≡◌, List, [], ◌∷◌, ◌++◌, option_and_then};
 ghost use Rattle.history.specs.declared.events.Entry.{Entry};
-ghost use Rattle.rv_core.specs.Runs.{Program, reads, IsBegunRun};
+ghost use Rattle.rv_core.specs.Runs.{AppProgram, ProgramState, reads, IsBegunRun};
+ghost use Rattle.rv_core.specs.Waits.{goes_on};
 
-/// Entries are read in parts: the second part goes on where the first has come to.
-pub fn runs_are_read_in_parts()
-    ensures value { (start : Program) (front back : List Entry)
-        → reads start (front ++ back) ≡ option_and_then (λ middle. reads middle back) (reads start front) }
-    ensures begun { (start middle last : Program) (front back : List Entry)
-        → IsBegunRun start front middle → IsBegunRun middle back last
-        → IsBegunRun start (front ++ back) last }
+/// One entry more goes on from where the program stands: so a core that waits for each of its accesses makes the runs
+/// of the definition, and no others.
+pub fn runs_grow_by_one()
+    ensures { (start : AppProgram) (entries : List Entry) (entry : Entry)
+        → reads start (entries ++ entry ∷ []) ≡ option_and_then (λ at. goes_on at entry.act) (reads start entries) }
+{}
+
+/// The front of a begun run is a begun run.
+pub fn fronts_are_begun()
+    ensures { (start : AppProgram) (front back : List Entry) (last : ProgramState) → IsBegunRun start (front ++ back) last
+        → (at : ProgramState) × IsBegunRun start front at }
 {}

@@ -1,8 +1,8 @@
-//! One RV32I core, as an application of a device runs it.
+//! One RV32IM core, as an application of a device runs it.
 //!
 //! A core never touches memory itself. It says what it wants next, a fetch, one load or one store, waits, and goes
-//! on when it is told the answer. `specs/Effects.antt` has the effect of each instruction word, and
-//! `specs/Runs.antt` what an application's program is, as the list of its accesses.
+//! on when it is told the answer. `specs/Effects.antt` has the effect of each instruction word, `specs/Runs.antt` what an
+//! application's program is, as the list of its accesses, and `specs/Waits.antt` one step of a core that waits.
 //!
 //! ```rust
 //! use rv_core::{Core, CoreWant, Geometry, Reply};
@@ -26,7 +26,9 @@ mod waits;
 mod worked;
 
 pub use block_memory::{Geometry, Width};
-pub use laws::runs_are_read_in_parts;
+pub use laws::{fronts_are_begun, runs_grow_by_one};
 pub use running::Core;
 pub use waits::{CoreWant, Ending, Reply, TrapKind};
-pub use worked::run_of_a_small_program;
+pub use worked::{
+    divisions_without_a_quotient, endings_of_programs, entries_of_no_run, run_of_a_small_program,
+};

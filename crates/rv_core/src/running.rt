@@ -3,7 +3,7 @@
 ghost use Rattle.std.specs.Prelude.{◌≡◌, ◌<◌, ◌^◌, slice_index};
 ghost use Rattle.history.specs.Layout.{width_bytes};
 ghost use Rattle.rv_core.specs.Effects.{with_register, extended};
-ghost use Rattle.rv_core.specs.Runs.{IsPhase, load_phase, store_phase};
+ghost use Rattle.rv_core.specs.Kept.{load_phase, store_phase};
 
 use crate::effects::{effect_of, next_word};
 use crate::waits::{CoreWant, Effect, Ending, Phase, Reply, TrapKind};
@@ -59,8 +59,7 @@ fn before_load(
     rd: u32,
 ) -> Phase
     requires { rd < 32 }
-    ensures value { result ≡ load_phase geometry.now pc width signed addr rd }
-    ensures proper { IsPhase geometry.now result }
+    ensures { result ≡ load_phase geometry.now pc width signed addr rd }
 {
     if !aligned(addr, width) {
         return Phase::Over(Ending::Trap(TrapKind::LoadMisaligned, pc));
@@ -79,8 +78,7 @@ fn before_load(
 // Where a core stands after the fetch of a store.
 fn before_store(geometry: &Geometry, pc: u32, width: Width, addr: u32, value: u32) -> Phase
     requires { value < 256 ^ width_bytes width }
-    ensures value { result ≡ store_phase geometry.now pc width addr value }
-    ensures proper { IsPhase geometry.now result }
+    ensures { result ≡ store_phase geometry.now pc width addr value }
 {
     if !aligned(addr, width) {
         return Phase::Over(Ending::Trap(TrapKind::StoreMisaligned, pc));
@@ -91,8 +89,9 @@ fn before_store(geometry: &Geometry, pc: u32, width: Width, addr: u32, value: u3
     Phase::Storing { width, addr, value }
 }
 
-/// One RV32I core (RISC-V Unprivileged ISA, chapter "RV32I Base Integer Instruction Set") and its console. Clauses
-/// see it as the `CoreState` of `specs/Runs.antt`.
+/// One RV32IM core (RISC-V Unprivileged ISA, chapters "RV32I Base Integer Instruction Set" and "M Standard Extension for
+/// Integer Multiplication and Division") and its console. Clauses see it as the `Waiting` of `specs/Runs.antt`: a core
+/// between two instructions, and the word of an instruction that waits for its load or its store.
 #[derive(Drop)]
 pub struct Core {
     geometry: Geometry,
@@ -100,40 +99,43 @@ pub struct Core {
     pc: u32,
     console: [u8; CONSOLE_BYTES],
     count: usize,
+    /// The word that was fetched last, and what it still asks.
+    word: u32,
     phase: Phase,
 }
 
 impl Model for Core {
     ghost use Rattle.std.specs.Prelude.{take};
-    ghost use Rattle.rv_core.specs.Runs.{CoreState, IsSound};
+    ghost use Rattle.rv_core.specs.Runs.{Waiting, waiting};
+    ghost use Rattle.rv_core.specs.Kept.{fetched_in, IsSound};
 
-    ghost Value = { CoreState };
+    ghost Value = { Waiting };
 
-    ghost view = { λ c. record {
-      layout = c.geometry;
-      registers = c.registers;
-      pc = c.pc;
-      console = take c.count c.console;
-      phase = c.phase;
-    } };
+    ghost view = { λ c. waiting
+        (record { layout = c.geometry; registers = c.registers; pc = c.pc; console = take c.count c.console })
+        (fetched_in c.phase c.word) };
 
-    ghost invariant = { λ c. IsSound c.geometry c.registers c.pc c.count c.phase };
+    ghost invariant = { λ c. IsSound
+        (record { layout = c.geometry; registers = c.registers; pc = c.pc; console = take c.count c.console })
+        c.count c.word c.phase };
 }
 
 impl Core {
-    ghost use Rattle.std.specs.Prelude.{◌≡◌, ℕ, ◌+◌, ◌%◌, ◌<◌, ◌≤◌, length, List, [], ◌∷◌, ◌++◌, Some, slice_index};
+    ghost use Rattle.std.specs.Prelude.{◌≡◌, ℕ, ◌+◌, ◌%◌, ◌<◌, ◌≤◌, length, List, [], ◌∷◌, ◌++◌, Some, None, slice_index};
     ghost use Rattle.history.specs.declared.events.Act.{Act};
     ghost use Rattle.history.specs.declared.events.Entry.{Entry};
     ghost use Rattle.rv_core.specs.declared.waits.Reply.TheVariants.{Fetched, Loaded, Stored};
-    ghost use Rattle.rv_core.specs.declared.waits.Phase.TheVariants.{Fetching};
-    ghost use Rattle.rv_core.specs.Effects.{next};
-    ghost use Rattle.rv_core.specs.Runs.{CoreState, Program, started, want_of, told_of, called, printed, IsProperWant, data_accesses, Answers, act_of, fuel_of, program_of, IsBegunRun};
+    ghost use Rattle.rv_core.specs.declared.waits.Effect.TheVariants.{Calls};
+    ghost use Rattle.rv_core.specs.Effects.{effect_of, next};
+    ghost use Rattle.rv_core.specs.Kept.{fetched_in, KeepsPhase};
+    ghost use Rattle.rv_core.specs.Runs.{CoreState, Waiting, waiting, AppProgram, ProgramState, standing, started, core_want, a7, asked_by_call, after_print, with_fetched, IsBegunRun};
+    ghost use Rattle.rv_core.specs.Waits.{told_of, IsProperWant, data_accesses, Replies, reply_value, act_asked, fuel_of};
 
     /// A core over a memory that lies there, at its first instruction: all registers are 0 but x2, the stack
     /// pointer.
     pub fn new(geometry: Geometry, pc: u32, sp: u32) -> Core
         requires { pc % 4 ≡ 0 }
-        ensures { result ≡ started geometry pc sp }
+        ensures { result ≡ waiting (started geometry pc sp) None }
     {
         let mut registers = [0; 32];
         registers[2] = sp;
@@ -143,6 +145,7 @@ impl Core {
             pc,
             console: [0; CONSOLE_BYTES],
             count: 0,
+            word: 0,
             phase: Phase::Fetching,
         }
     }
@@ -150,8 +153,8 @@ impl Core {
     /// What the core asks next. It asks the same until it is told. A fetch is of the word at the pc; an access has
     /// room in memory and is aligned, and a stored value has no more bytes than its width.
     pub fn want(&self) -> CoreWant
-        ensures value { result ≡ want_of self.now }
-        ensures proper { IsProperWant self.now.layout result }
+        ensures value { result ≡ core_want self.now }
+        ensures proper { IsProperWant self.now.core.layout result }
     {
         match self.phase {
             Phase::Fetching => {
@@ -171,15 +174,15 @@ impl Core {
     /// its width. Where the core so far is at the end of a begun run, it is at the end of one with this access
     /// more; a fetch takes one of the program's fuel.
     pub fn told(&mut self, reply: Reply)
-        requires { Answers (want_of self.old) reply }
+        requires { Replies (core_want self.old) reply }
         ensures value { self.new ≡ told_of self.old reply }
-        ensures layout { self.new.layout ≡ self.old.layout }
-        // After a load or a store the instruction is over.
-        ensures once { fuel_of reply ≡ 0 → data_accesses (want_of self.new) ≡ 0 }
-        ensures run { (start : Program) (entries : List Entry) (fuel left actor : ℕ) (act : Act)
-            → act_of (want_of self.old) reply ≡ Some act → fuel ≡ left + fuel_of reply
-            → IsBegunRun start entries (program_of self.old fuel)
-            → IsBegunRun start (entries ++ record { actor = actor; act = act } ∷ []) (program_of self.new left) }
+        ensures layout { self.new.core.layout ≡ self.old.core.layout }
+        // After a load or a store the instruction is over: what comes next is a fetch or the end.
+        ensures once { data_accesses (core_want self.old) ≡ 1 → data_accesses (core_want self.new) ≡ 0 }
+        ensures run { (start : AppProgram) (entries : List Entry) (fuel left actor : ℕ) (act : Act)
+            → act_asked (core_want self.old) (reply_value reply) ≡ Some act → fuel ≡ left + fuel_of reply
+            → IsBegunRun start entries (standing self.old fuel)
+            → IsBegunRun start (entries ++ record { actor = actor; act = act } ∷ []) (standing self.new left) }
     {
         match reply {
             Reply::Fetched(word) => self.fetched(word),
@@ -190,7 +193,7 @@ impl Core {
 
     /// What the application has printed, at most 4,096 bytes.
     pub fn console(&self) -> &[u8]
-        ensures value { result.now ≡ self.now.console }
+        ensures value { result.now ≡ self.now.core.console }
         ensures room { length result.now ≤ 4096 }
     {
         &self.console[..self.count]
@@ -199,7 +202,7 @@ impl Core {
     /// The register with this number.
     pub fn reg(&self, n: u32) -> u32
         requires { n < 32 }
-        ensures value { result ≡ slice_index self.now.registers n }
+        ensures value { result ≡ slice_index self.now.core.registers n }
         ensures zero { n ≡ 0 → result ≡ 0 }
     {
         self.registers[n as usize]
@@ -207,7 +210,7 @@ impl Core {
 
     // The next word was fetched.
     fn fetched(&mut self, word: u32)
-        requires { self.old.phase ≡ Fetching }
+        requires { self.old.fetched ≡ None }
         ensures { self.new ≡ told_of self.old (Fetched word) }
     {
         match effect_of(word, &self.registers, self.pc) {
@@ -221,29 +224,50 @@ impl Core {
                 signed,
                 addr,
                 rd,
-            } => self.phase = before_load(&self.geometry, self.pc, width, signed, addr, rd),
-            Effect::Stores { width, addr, value } => {
-                self.phase = before_store(&self.geometry, self.pc, width, addr, value)
+            } => {
+                let phase = before_load(&self.geometry, self.pc, width, signed, addr, rd);
+                self.waits_in(word, phase);
             }
-            Effect::Calls => self.call(),
-            Effect::Traps(kind) => self.phase = Phase::Over(Ending::Trap(kind, self.pc)),
+            Effect::Stores { width, addr, value } => {
+                let phase = before_store(&self.geometry, self.pc, width, addr, value);
+                self.waits_in(word, phase);
+            }
+            Effect::Calls => self.call(word),
+            Effect::Traps(kind) => {
+                let phase = Phase::Over(Ending::Trap(kind, self.pc));
+                self.waits_in(word, phase);
+            }
         }
     }
 
-    // A call of the environment.
-    fn call(&mut self)
-        ensures { self.new ≡ called (slice_index self.old.registers 17) (slice_index self.old.registers 10) self.old }
+    // The instruction of this word isn't over.
+    fn waits_in(&mut self, word: u32, phase: Phase)
+        requires now { self.old.fetched ≡ None }
+        requires phase { KeepsPhase self.old.core word phase }
+        ensures { self.new ≡ waiting self.old.core (fetched_in phase word) }
     {
-        match self.registers[A7] {
-            EXIT => self.phase = Phase::Over(Ending::Exit(self.registers[A0])),
-            PRINT => self.print(),
-            _ => self.phase = Phase::Over(Ending::Trap(TrapKind::UnknownCall, self.pc)),
-        }
+        self.word = word;
+        self.phase = phase;
+    }
+
+    // A call of the environment.
+    fn call(&mut self, word: u32)
+        requires now { self.old.fetched ≡ None }
+        requires call { effect_of word self.old.core.registers self.old.core.pc ≡ Calls }
+        ensures { self.new ≡ with_fetched self.old.core word }
+    {
+        let ending = match self.registers[A7] {
+            PRINT => return self.print(),
+            EXIT => Ending::Exit(self.registers[A0]),
+            _ => Ending::Trap(TrapKind::UnknownCall, self.pc),
+        };
+        self.waits_in(word, Phase::Over(ending));
     }
 
     // The low byte of a0 goes to the console, and a0 becomes 0; where the console is full, a0 becomes all ones.
     fn print(&mut self)
-        ensures { self.new ≡ printed (slice_index self.old.registers 10) self.old }
+        requires { self.old.fetched ≡ None }
+        ensures { self.new ≡ waiting (after_print self.old.core) None }
     {
         if self.count < CONSOLE_BYTES {
             self.console[self.count] = (self.registers[A0] & 0xff) as u8;
@@ -257,7 +281,7 @@ impl Core {
 
     // The load is done.
     fn loaded(&mut self, value: u32)
-        requires { Answers (want_of self.old) (Loaded value) }
+        requires { Replies (core_want self.old) (Loaded value) }
         ensures { self.new ≡ told_of self.old (Loaded value) }
     {
         let Phase::Loading {
@@ -269,24 +293,27 @@ impl Core {
         else {
             unreachable!()
         };
-        write_register(&mut self.registers, rd, in_register(width, signed, value));
         self.go_on();
+        write_register(&mut self.registers, rd, in_register(width, signed, value));
     }
 
     // The store is done.
     fn stored(&mut self)
-        requires { Answers (want_of self.old) Stored }
+        requires { Replies (core_want self.old) Stored }
         ensures { self.new ≡ told_of self.old Stored }
     {
+        let Phase::Storing { .. } = self.phase else {
+            unreachable!()
+        };
         self.go_on();
     }
 
     // The instruction is over, and the next word follows.
     fn go_on(&mut self)
-        ensures { self.new ≡ record self.old { pc = next self.old.pc; phase = Fetching } }
+        ensures { self.new ≡ waiting (record self.old.core { pc = next self.old.core.pc }) None }
     {
-        self.pc = next_word(self.pc);
         self.phase = Phase::Fetching;
+        self.pc = next_word(self.pc);
     }
 }
 

@@ -2,6 +2,7 @@
 
 use crate::waits::{CoreWant, Ending, Reply, TrapKind};
 use crate::{Core, Geometry, Width};
+use std::alloc::Global;
 use std::process::Abort;
 
 /// The address of the instruction that is tried, in the middle of a memory of 1 MiB from 0 on.
@@ -10,17 +11,16 @@ const PC: u32 = 0x8_0000;
 /// ECALL.
 const ECALL: u32 = 0x0000_0073;
 
-/// Answers the fetch that the core wants.
-fn fetch(rt: &impl Abort, core: &mut Core, word: u32) {
-    match core.want() {
-        CoreWant::Fetch { .. } => core.told(Reply::Fetched(word)),
-        other => assert!(rt; false, "{other:?} in place of a fetch"),
-    }
+/// The number in a cell.
+fn number(rt: &impl Abort, cell: Option<&str>) -> u32 {
+    let digits = cell.expect(rt, "a cell is missing");
+    u32::from_str_radix(digits, 16).expect(rt, "no number")
 }
 
-/// Answers the load that the core wants, with the value's lowest bytes.
-fn load(rt: &impl Abort, core: &mut Core, value: u32) {
+/// Answers what the core wants: a fetch with the value, and a load with its lowest bytes.
+fn answer(rt: &impl Abort, core: &mut Core, value: u32) {
     match core.want() {
+        CoreWant::Fetch { .. } => core.told(Reply::Fetched(value)),
         CoreWant::Load {
             width: Width::Byte,
             ..
@@ -33,15 +33,8 @@ fn load(rt: &impl Abort, core: &mut Core, value: u32) {
             width: Width::Word,
             ..
         } => core.told(Reply::Loaded(value)),
-        other => assert!(rt; false, "{other:?} in place of a load"),
-    }
-}
-
-/// Answers the store that the core wants.
-fn store(rt: &impl Abort, core: &mut Core) {
-    match core.want() {
         CoreWant::Store { .. } => core.told(Reply::Stored),
-        other => assert!(rt; false, "{other:?} in place of a store"),
+        CoreWant::Ended(ending) => assert!(rt; false, "{ending:?}"),
     }
 }
 
@@ -50,549 +43,268 @@ fn after(rt: &impl Abort, word: u32, a: u32, b: u32) -> Core {
     let geometry = Geometry::new(0, 65_536, 16).expect(rt, "no such geometry");
     let mut core = Core::new(geometry, PC - 8, b);
     // lui x1, and addi x1, x1
-    fetch(
+    answer(
         rt,
         &mut core,
         a.wrapping_add(0x800) & 0xffff_f000 | 0x0000_00b7,
     );
-    fetch(rt, &mut core, a << 20 | 0x0000_8093);
-    fetch(rt, &mut core, word);
+    answer(rt, &mut core, a << 20 | 0x0000_8093);
+    answer(rt, &mut core, word);
     core
 }
 
-/// The word puts `x3` into x3, and the next word follows.
-fn puts(rt: &impl Abort, word: u32, a: u32, b: u32, x3: u32) {
-    let core = after(rt, word, a, b);
-    assert_eq!(rt;
-        core.want(),
-        CoreWant::Fetch { addr: PC + 4 },
-        "{word:08x} at {a:x} {b:x}"
-    );
-    assert_eq!(rt; core.reg(3), x3, "x3 of {word:08x} at {a:x} {b:x}");
+/// The core wants this.
+fn wants(rt: &impl Abort, alloc: Global, core: &Core, want: Option<&str>, case: &str) {
+    let text = format!(in alloc; "{:?}", core.want()).expect(rt, "no memory");
+    assert_eq!(rt; Some(text.as_str()), want, "{case}");
 }
 
-/// After the word the core wants this, and has `x3` in x3.
-fn wants(rt: &impl Abort, word: u32, a: u32, b: u32, want: CoreWant, x3: u32) {
-    let core = after(rt, word, a, b);
-    assert_eq!(rt; core.want(), want, "{word:08x} at {a:x} {b:x}");
-    assert_eq!(rt; core.reg(3), x3, "x3 of {word:08x} at {a:x} {b:x}");
+/// Each row has x1, then x2 or an immediate, and for each of the words x3.
+fn results(rt: &impl Abort, words: &str, has_immediate: bool, rows: &str) {
+    for row in rows.split('\n') {
+        let mut cells = row.split(' ');
+        let a = number(rt, cells.next());
+        let b = number(rt, cells.next());
+        let bits = if has_immediate { b << 20 } else { 0 };
+        for word in words.split(' ') {
+            let core = after(rt, number(rt, Some(word)) | bits, a, b);
+            assert_eq!(rt;
+                core.want(),
+                CoreWant::Fetch { addr: PC + 4 },
+                "{word} at {row}"
+            );
+            assert_eq!(rt; core.reg(3), number(rt, cells.next()), "{word} at {row}");
+        }
+    }
 }
-
-/// The want of a trap at `PC`.
-fn trap(kind: TrapKind) -> CoreWant {
-    CoreWant::Ended(Ending::Trap(kind, PC))
-}
-
-/// The values of x1 and x2, or of x1 and the immediate, and for each word x3 at each of them.
-const OF_REGISTERS: [(u32, u32); 10] = [
-    (0, 0),
-    (1, 0xffff_ffff),
-    (0xffff_ffff, 1),
-    (0x7fff_ffff, 0x8000_0000),
-    (0x8000_0000, 0x7fff_ffff),
-    (0x8000_0000, 31),
-    (0x8000_0001, 32),
-    (0x7fff_ffff, 33),
-    (0xffff_ffff, 0xffff_ffff),
-    (0xa5a5_a5a5, 0x0ff0_0ff4),
-];
 
 // add, sub, sll, slt, sltu, xor, srl, sra, or, and
-const REGISTER_ROWS: [(u32, [u32; 10]); 10] = [
-    (
-        0x0020_81b3,
-        [
-            0,
-            0,
-            0,
-            0xffff_ffff,
-            0xffff_ffff,
-            0x8000_001f,
-            0x8000_0021,
-            0x8000_0020,
-            0xffff_fffe,
-            0xb595_b599,
-        ],
-    ),
-    (
-        0x4020_81b3,
-        [
-            0,
-            2,
-            0xffff_fffe,
-            0xffff_ffff,
-            1,
-            0x7fff_ffe1,
-            0x7fff_ffe1,
-            0x7fff_ffde,
-            0,
-            0x95b5_95b1,
-        ],
-    ),
-    (
-        0x0020_91b3,
-        [
-            0,
-            0x8000_0000,
-            0xffff_fffe,
-            0x7fff_ffff,
-            0,
-            0,
-            0x8000_0001,
-            0xffff_fffe,
-            0x8000_0000,
-            0x5a50_0000,
-        ],
-    ),
-    (0x0020_a1b3, [0, 0, 1, 0, 1, 1, 1, 0, 0, 1]),
-    (0x0020_b1b3, [0, 1, 0, 1, 0, 0, 0, 0, 0, 0]),
-    (
-        0x0020_c1b3,
-        [
-            0,
-            0xffff_fffe,
-            0xffff_fffe,
-            0xffff_ffff,
-            0xffff_ffff,
-            0x8000_001f,
-            0x8000_0021,
-            0x7fff_ffde,
-            0,
-            0xaa55_aa51,
-        ],
-    ),
-    (
-        0x0020_d1b3,
-        [
-            0,
-            0,
-            0x7fff_ffff,
-            0x7fff_ffff,
-            1,
-            1,
-            0x8000_0001,
-            0x3fff_ffff,
-            1,
-            0x0000_0a5a,
-        ],
-    ),
-    (
-        0x4020_d1b3,
-        [
-            0,
-            0,
-            0xffff_ffff,
-            0x7fff_ffff,
-            0xffff_ffff,
-            0xffff_ffff,
-            0x8000_0001,
-            0x3fff_ffff,
-            0xffff_ffff,
-            0xffff_fa5a,
-        ],
-    ),
-    (
-        0x0020_e1b3,
-        [
-            0,
-            0xffff_ffff,
-            0xffff_ffff,
-            0xffff_ffff,
-            0xffff_ffff,
-            0x8000_001f,
-            0x8000_0021,
-            0x7fff_ffff,
-            0xffff_ffff,
-            0xaff5_aff5,
-        ],
-    ),
-    (
-        0x0020_f1b3,
-        [0, 1, 1, 0, 0, 0, 0, 0x0000_0021, 0xffff_ffff, 0x05a0_05a4],
-    ),
-];
+const REGISTER_WORDS: &str =
+    "002081b3 402081b3 002091b3 0020a1b3 0020b1b3 0020c1b3 0020d1b3 4020d1b3 0020e1b3 0020f1b3";
 
-const OF_IMMEDIATES: [(u32, u32); 8] = [
-    (0, 0x000),
-    (0, 0xfff),
-    (0xffff_ffff, 0x001),
-    (0x7fff_ffff, 0x7ff),
-    (0x8000_0000, 0x800),
-    (0xffff_f800, 0x800),
-    (1, 0xfff),
-    (0xffff_ffff, 0xfff),
-];
+const REGISTER_ROWS: &str = "\
+0 0 0 0 0 0 0 0 0 0 0 0\n\
+1 ffffffff 0 2 80000000 0 1 fffffffe 0 0 ffffffff 1\n\
+ffffffff 1 0 fffffffe fffffffe 1 0 fffffffe 7fffffff ffffffff ffffffff 1\n\
+7fffffff 80000000 ffffffff ffffffff 7fffffff 0 1 ffffffff 7fffffff 7fffffff ffffffff 0\n\
+80000000 7fffffff ffffffff 1 0 1 0 ffffffff 1 ffffffff ffffffff 0\n\
+80000000 1f 8000001f 7fffffe1 0 1 0 8000001f 1 ffffffff 8000001f 0\n\
+80000001 20 80000021 7fffffe1 80000001 1 0 80000021 80000001 80000001 80000021 0\n\
+7fffffff 21 80000020 7fffffde fffffffe 0 0 7fffffde 3fffffff 3fffffff 7fffffff 21\n\
+ffffffff ffffffff fffffffe 0 80000000 0 0 0 1 ffffffff ffffffff ffffffff\n\
+a5a5a5a5 ff00ff4 b595b599 95b595b1 5a500000 1 0 aa55aa51 a5a fffffa5a aff5aff5 5a005a4";
 
 // addi, slti, sltiu, xori, ori, andi
-const IMMEDIATE_ROWS: [(u32, [u32; 8]); 6] = [
-    (
-        0x0000_8193,
-        [
-            0,
-            0xffff_ffff,
-            0,
-            0x8000_07fe,
-            0x7fff_f800,
-            0xffff_f000,
-            0,
-            0xffff_fffe,
-        ],
-    ),
-    (0x0000_a193, [0, 0, 1, 0, 1, 0, 0, 0]),
-    (0x0000_b193, [0, 1, 0, 0, 1, 0, 1, 0]),
-    (
-        0x0000_c193,
-        [
-            0,
-            0xffff_ffff,
-            0xffff_fffe,
-            0x7fff_f800,
-            0x7fff_f800,
-            0,
-            0xffff_fffe,
-            0,
-        ],
-    ),
-    (
-        0x0000_e193,
-        [
-            0,
-            0xffff_ffff,
-            0xffff_ffff,
-            0x7fff_ffff,
-            0xffff_f800,
-            0xffff_f800,
-            0xffff_ffff,
-            0xffff_ffff,
-        ],
-    ),
-    (
-        0x0000_f193,
-        [
-            0,
-            0,
-            1,
-            0x0000_07ff,
-            0x8000_0000,
-            0xffff_f800,
-            1,
-            0xffff_ffff,
-        ],
-    ),
-];
+const IMMEDIATE_WORDS: &str = "00008193 0000a193 0000b193 0000c193 0000e193 0000f193";
 
-const OF_SHIFTS: [(u32, u32); 7] = [
-    (1, 0),
-    (1, 31),
-    (0x8000_0000, 1),
-    (0x8000_0000, 31),
-    (0xffff_ffff, 4),
-    (0x7fff_ffff, 31),
-    (0x8000_0001, 0),
-];
+const IMMEDIATE_ROWS: &str = "\
+0 0 0 0 0 0 0 0\n\
+0 fff ffffffff 0 1 ffffffff ffffffff 0\n\
+ffffffff 1 0 1 0 fffffffe ffffffff 1\n\
+7fffffff 7ff 800007fe 0 0 7ffff800 7fffffff 7ff\n\
+80000000 800 7ffff800 1 1 7ffff800 fffff800 80000000\n\
+fffff800 800 fffff000 0 0 0 fffff800 fffff800\n\
+1 fff 0 0 1 fffffffe ffffffff 1\n\
+ffffffff fff fffffffe 0 0 0 ffffffff ffffffff";
 
 // slli, srli, srai
-const SHIFT_ROWS: [(u32, [u32; 7]); 3] = [
-    (
-        0x0000_9193,
-        [1, 0x8000_0000, 0, 0, 0xffff_fff0, 0x8000_0000, 0x8000_0001],
-    ),
-    (
-        0x0000_d193,
-        [1, 0, 0x4000_0000, 1, 0x0fff_ffff, 0, 0x8000_0001],
-    ),
-    (
-        0x4000_d193,
-        [1, 0, 0xc000_0000, 0xffff_ffff, 0xffff_ffff, 0, 0x8000_0001],
-    ),
-];
+const SHIFT_WORDS: &str = "00009193 0000d193 4000d193";
+
+const SHIFT_ROWS: &str = "\
+1 0 1 1 1\n\
+1 1f 80000000 0 0\n\
+80000000 1 0 40000000 c0000000\n\
+80000000 1f 0 1 ffffffff\n\
+ffffffff 4 fffffff0 fffffff ffffffff\n\
+7fffffff 1f 80000000 0 0\n\
+80000001 0 80000001 80000001 80000001";
+
+// mul, mulh, mulhsu, mulhu, div, divu, rem, remu
+const MULTIPLY_WORDS: &str =
+    "022081b3 022091b3 0220a1b3 0220b1b3 0220c1b3 0220d1b3 0220e1b3 0220f1b3";
+
+const MULTIPLY_ROWS: &str = "\
+0 0 0 0 0 0 ffffffff ffffffff 0 0\n\
+0 1 0 0 0 0 0 0 0 0\n\
+0 ffffffff 0 0 0 0 0 0 0 0\n\
+0 80000000 0 0 0 0 0 0 0 0\n\
+0 7fffffff 0 0 0 0 0 0 0 0\n\
+1 0 0 0 0 0 ffffffff ffffffff 1 1\n\
+1 1 1 0 0 0 1 1 0 0\n\
+1 ffffffff ffffffff ffffffff 0 0 ffffffff 0 0 1\n\
+1 80000000 80000000 ffffffff 0 0 0 0 1 1\n\
+1 7fffffff 7fffffff 0 0 0 0 0 1 1\n\
+ffffffff 0 0 0 0 0 ffffffff ffffffff ffffffff ffffffff\n\
+ffffffff 1 ffffffff ffffffff ffffffff 0 ffffffff ffffffff 0 0\n\
+ffffffff ffffffff 1 0 ffffffff fffffffe 1 1 0 0\n\
+ffffffff 80000000 80000000 0 ffffffff 7fffffff 0 1 ffffffff 7fffffff\n\
+ffffffff 7fffffff 80000001 ffffffff ffffffff 7ffffffe 0 2 ffffffff 1\n\
+80000000 0 0 0 0 0 ffffffff ffffffff 80000000 80000000\n\
+80000000 1 80000000 ffffffff ffffffff 0 80000000 80000000 0 0\n\
+80000000 ffffffff 80000000 0 80000000 7fffffff 80000000 0 0 80000000\n\
+80000000 80000000 0 40000000 c0000000 40000000 1 1 0 0\n\
+80000000 7fffffff 80000000 c0000000 c0000000 3fffffff ffffffff 1 ffffffff 1\n\
+7fffffff 0 0 0 0 0 ffffffff ffffffff 7fffffff 7fffffff\n\
+7fffffff 1 7fffffff 0 0 0 7fffffff 7fffffff 0 0\n\
+7fffffff ffffffff 80000001 ffffffff 7ffffffe 7ffffffe 80000001 0 0 7fffffff\n\
+7fffffff 80000000 80000000 c0000000 3fffffff 3fffffff 0 0 7fffffff 7fffffff\n\
+7fffffff 7fffffff 1 3fffffff 3fffffff 3fffffff 1 1 0 0\n\
+fffffff9 2 fffffff2 ffffffff ffffffff 1 fffffffd 7ffffffc ffffffff 1\n\
+5 0 0 0 0 0 ffffffff ffffffff 5 5\n\
+7 fffffffe fffffff2 ffffffff 6 6 fffffffd 0 1 7";
+
+// lui, lui, auipc, auipc, auipc, fence
+const OTHER_WORDS: &str = "fffff1b7 000011b7 fffff197 80000197 00000197 0ff0000f";
+
+const OTHER_ROWS: &str = "1 2 fffff000 1000 7f000 80080000 80000 0";
 
 #[test]
 fn results_in_registers(rt: HostRuntime) {
-    for (word, results) in REGISTER_ROWS {
-        for (k, x3) in results.iter().enumerate() {
-            let (a, b) = OF_REGISTERS[k];
-            puts(&rt, word, a, b, *x3);
+    results(&rt, REGISTER_WORDS, false, REGISTER_ROWS);
+    results(&rt, IMMEDIATE_WORDS, true, IMMEDIATE_ROWS);
+    results(&rt, SHIFT_WORDS, true, SHIFT_ROWS);
+    results(&rt, MULTIPLY_WORDS, false, MULTIPLY_ROWS);
+    results(&rt, OTHER_WORDS, false, OTHER_ROWS);
+}
+
+// beq, bne, blt, bge, bltu, bgeu, by 8
+const BRANCH_WORDS: &str = "00208463 00209463 0020c463 0020d463 0020e463 0020f463";
+
+// x1, x2, and for each word 1 where it is taken
+const BRANCH_ROWS: &str = "\
+0 0 1 0 0 1 0 1\n\
+1 ffffffff 0 1 0 1 1 0\n\
+ffffffff 1 0 1 1 0 0 1\n\
+7fffffff 80000000 0 1 0 1 1 0\n\
+80000000 7fffffff 0 1 1 0 0 1\n\
+80000000 80000000 1 0 0 1 0 1\n\
+0 1 0 1 1 0 1 0\n\
+1 0 0 1 0 1 0 1";
+
+#[test]
+fn branches(rt: HostRuntime) {
+    let next = CoreWant::Fetch { addr: PC + 4 };
+    let far = CoreWant::Fetch { addr: PC + 8 };
+    let trap = CoreWant::Ended(Ending::Trap(TrapKind::FetchMisaligned, PC));
+    for row in BRANCH_ROWS.split('\n') {
+        let mut cells = row.split(' ');
+        let a = number(&rt, cells.next());
+        let b = number(&rt, cells.next());
+        for word in BRANCH_WORDS.split(' ') {
+            let by_8 = number(&rt, Some(word));
+            let is_taken = number(&rt, cells.next()) == 1;
+            let want = after(&rt, by_8, a, b).want();
+            assert_eq!(rt; want, if is_taken { far } else { next }, "{word} at {row}");
+            // The branch by 6 isn't to a word.
+            let want = after(&rt, by_8.wrapping_sub(0x100), a, b).want();
+            assert_eq!(rt;
+                want,
+                if is_taken { trap } else { next },
+                "{word} by 6 at {row}"
+            );
         }
     }
-    for (word, results) in IMMEDIATE_ROWS {
-        for (k, x3) in results.iter().enumerate() {
-            let (a, imm) = OF_IMMEDIATES[k];
-            puts(&rt, word | imm << 20, a, 0, *x3);
+}
+
+// beq by 4092 and by -4096; jal by 8, by 524284 and by -524288, and without a link; jalr: bit 0 is cleared, the sum
+// wraps, x1 is read before it is written. Targets that are no words; EBREAK, words of no row, ECALL with 0 in a7. lb,
+// lh, lw, lbu, lhu from -4(x1), told a value. sb, sh, sw at -4(x1). Misaligned before outside, and outside, at x1 and
+// at 2047(x1); sums wrap. Nothing is written to x0: addi, lui, add and a load.
+// Each row has a word, x1, x2, what is wanted after it, x3 in the end, and for an access its answer.
+const CASES: &str = "\
+7e000ee3;0;0;Fetch { addr: 528380 };0\n\
+80000063;0;0;Fetch { addr: 520192 };0\n\
+008001ef;0;0;Fetch { addr: 524296 };80004\n\
+7fd7f1ef;0;0;Fetch { addr: 1048572 };80004\n\
+800801ef;0;0;Fetch { addr: 0 };80004\n\
+8008006f;0;0;Fetch { addr: 0 };0\n\
+000081e7;1235;0;Fetch { addr: 4660 };80004\n\
+001081e7;ffffffff;0;Fetch { addr: 0 };80004\n\
+fff081e7;1;0;Fetch { addr: 0 };80004\n\
+000080e7;1000;0;Fetch { addr: 4096 };0\n\
+00008067;1000;0;Fetch { addr: 4096 };0\n\
+002001ef;0;0;Ended(Trap(FetchMisaligned, 524288));0\n\
+002081e7;0;0;Ended(Trap(FetchMisaligned, 524288));0\n\
+000081e7;1003;0;Ended(Trap(FetchMisaligned, 524288));0\n\
+00000163;0;0;Ended(Trap(FetchMisaligned, 524288));0\n\
+00100073;0;0;Ended(Trap(Breakpoint, 524288));0\n\
+00000000;0;0;Ended(Trap(Illegal, 524288));0\n\
+ffffffff;0;0;Ended(Trap(Illegal, 524288));0\n\
+042081b3;0;0;Ended(Trap(Illegal, 524288));0\n\
+00000073;0;0;Ended(Trap(UnknownCall, 524288));0\n\
+ffc08183;104;0;Load { addr: 256, width: Byte };7f;7f\n\
+ffc08183;104;0;Load { addr: 256, width: Byte };ffffff80;80\n\
+ffc09183;104;0;Load { addr: 256, width: Half };7fff;7fff\n\
+ffc09183;104;0;Load { addr: 256, width: Half };ffff8000;8000\n\
+ffc0a183;104;0;Load { addr: 256, width: Word };80000000;80000000\n\
+ffc0c183;104;0;Load { addr: 256, width: Byte };ff;ff\n\
+ffc0d183;104;0;Load { addr: 256, width: Half };ffff;ffff\n\
+fe208e23;104;12345678;Store { addr: 256, width: Byte, value: 120 };0;0\n\
+fe209e23;104;12345678;Store { addr: 256, width: Half, value: 22136 };0;0\n\
+fe20ae23;104;12345678;Store { addr: 256, width: Word, value: 305419896 };0;0\n\
+00009183;1;1ff;Ended(Trap(LoadMisaligned, 524288));0\n\
+0000a183;fffffffe;1ff;Ended(Trap(LoadMisaligned, 524288));0\n\
+0000a183;100000;1ff;Ended(Trap(LoadAccess, 524288));0\n\
+00008183;ffffffff;1ff;Ended(Trap(LoadAccess, 524288));0\n\
+00209023;3;1ff;Ended(Trap(StoreMisaligned, 524288));0\n\
+0020a023;100002;1ff;Ended(Trap(StoreMisaligned, 524288));0\n\
+0020a023;100000;1ff;Ended(Trap(StoreAccess, 524288));0\n\
+00208023;100000;1ff;Ended(Trap(StoreAccess, 524288));0\n\
+0000d183;ffffe;0;Load { addr: 1048574, width: Half };abcd;abcd\n\
+7ff0c183;fffff801;0;Load { addr: 0, width: Byte };ab;ab\n\
+7e208fa3;fffff801;1ff;Store { addr: 0, width: Byte, value: 255 };0;0\n\
+00508013;7;9;Fetch { addr: 524292 };0\n\
+fffff037;7;9;Fetch { addr: 524292 };0\n\
+00208033;7;9;Fetch { addr: 524292 };0\n\
+00008003;100;0;Load { addr: 256, width: Byte };0;ff";
+
+#[test]
+fn jumps_traps_and_accesses(rt: HostRuntime) {
+    for row in CASES.split('\n') {
+        let mut cells = row.split(';');
+        let word = number(&rt, cells.next());
+        let a = number(&rt, cells.next());
+        let b = number(&rt, cells.next());
+        let mut core = after(&rt, word, a, b);
+        wants(&rt, rt.alloc(), &core, cells.next(), row);
+        let x3 = number(&rt, cells.next());
+        if let Some(value) = cells.next() {
+            answer(&rt, &mut core, number(&rt, Some(value)));
+            assert_eq!(rt; core.want(), CoreWant::Fetch { addr: PC + 4 }, "{row}");
         }
-    }
-    for (word, results) in SHIFT_ROWS {
-        for (k, x3) in results.iter().enumerate() {
-            let (a, shamt) = OF_SHIFTS[k];
-            puts(&rt, word | shamt << 20, a, 0, *x3);
-        }
-    }
-    // lui, auipc, fence
-    for (word, x3) in [
-        (0xffff_f1b7, 0xffff_f000),
-        (0x0000_11b7, 0x0000_1000),
-        (0xffff_f197, 0x0007_f000),
-        (0x8000_0197, 0x8008_0000),
-        (0x0000_0197, PC),
-        (0x0ff0_000f, 0),
-    ] {
-        puts(&rt, word, 1, 2, x3);
+        assert_eq!(rt; core.reg(3), x3, "{row}");
+        assert_eq!(rt; core.reg(0), 0, "{row}");
     }
 }
 
-const OF_BRANCHES: [(u32, u32); 8] = [
-    (0, 0),
-    (1, 0xffff_ffff),
-    (0xffff_ffff, 1),
-    (0x7fff_ffff, 0x8000_0000),
-    (0x8000_0000, 0x7fff_ffff),
-    (0x8000_0000, 0x8000_0000),
-    (0, 1),
-    (1, 0),
-];
-
-// The branch by 8 and by 6, and where it is taken: beq, bne, blt, bge, bltu, bgeu
-const BRANCH_ROWS: [(u32, u32, [bool; 8]); 6] = [
-    (
-        0x0020_8463,
-        0x0020_8363,
-        [true, false, false, false, false, true, false, false],
-    ),
-    (
-        0x0020_9463,
-        0x0020_9363,
-        [false, true, true, true, true, false, true, true],
-    ),
-    (
-        0x0020_c463,
-        0x0020_c363,
-        [false, false, true, false, true, false, true, false],
-    ),
-    (
-        0x0020_d463,
-        0x0020_d363,
-        [true, true, false, true, false, true, false, true],
-    ),
-    (
-        0x0020_e463,
-        0x0020_e363,
-        [false, true, false, true, false, false, true, false],
-    ),
-    (
-        0x0020_f463,
-        0x0020_f363,
-        [true, false, true, false, true, true, false, true],
-    ),
-];
+// addi x1, x0, 5; lui x2, 0x80000; sw x1, 0(x2); ecall with 0 in a7, or a word of no row. jalr x1, 1(x2) clears bit 0
+// of its target; jalr x1, 2(x2) traps and leaves x1. A pc before memory, past it, and one that wraps round 2^32.
+// Each row has the base of four blocks of 16 bytes, the pc, x2, the answers, what is wanted after them, and x1.
+const PROGRAMS: &str = "\
+80000000;80000000;0;500093;Fetch { addr: 2147483652 };5\n\
+80000000;80000000;0;500093 80000137 112023;Store { addr: 2147483648, width: Word, value: 5 };5\n\
+80000000;80000000;0;500093 80000137 112023 0;Fetch { addr: 2147483660 };5\n\
+80000000;80000000;0;500093 80000137 112023 0 73;Ended(Trap(UnknownCall, 2147483660));5\n\
+80000000;80000000;0;500093 80000137 112023 0 0;Ended(Trap(Illegal, 2147483660));5\n\
+80000000;80000000;80000008;1100e7;Fetch { addr: 2147483656 };80000004\n\
+80000000;80000000;80000008;2100e7;Ended(Trap(FetchMisaligned, 2147483648));0\n\
+80000000;8000003c;0;13;Ended(Trap(FetchAccess, 2147483712));0\n\
+ffffffc0;fffffffc;0;13;Ended(Trap(FetchAccess, 0));0\n\
+80000000;80000000;7ffffffc;10067;Ended(Trap(FetchAccess, 2147483644));0";
 
 #[test]
-fn branches_and_jumps(rt: HostRuntime) {
-    let on = CoreWant::Fetch { addr: PC + 4 };
-    for (by_8, by_6, taken) in BRANCH_ROWS {
-        for (k, is_taken) in taken.iter().enumerate() {
-            let (a, b) = OF_BRANCHES[k];
-            let far = CoreWant::Fetch { addr: PC + 8 };
-            wants(&rt, by_8, a, b, if *is_taken { far } else { on }, 0);
-            let bad = trap(TrapKind::FetchMisaligned);
-            wants(&rt, by_6, a, b, if *is_taken { bad } else { on }, 0);
-        }
-    }
-    for (word, a, target, x3) in [
-        // beq by 4092 and by -4096
-        (0x7e00_0ee3, 0, PC + 4092, 0),
-        (0x8000_0063, 0, PC - 4096, 0),
-        // jal by 8, by 524284 and by -524288, and without a link
-        (0x0080_01ef, 0, PC + 8, PC + 4),
-        (0x7fd7_f1ef, 0, 0x000f_fffc, PC + 4),
-        (0x8008_01ef, 0, 0, PC + 4),
-        (0x8008_006f, 0, 0, 0),
-        // jalr: bit 0 is cleared, the sum wraps, x1 is read before it is written
-        (0x0000_81e7, 0x1235, 0x1234, PC + 4),
-        (0x0010_81e7, 0xffff_ffff, 0, PC + 4),
-        (0xfff0_81e7, 1, 0, PC + 4),
-        (0x0000_80e7, 0x1000, 0x1000, 0),
-        (0x0000_8067, 0x1000, 0x1000, 0),
-    ] {
-        wants(&rt, word, a, 0, CoreWant::Fetch { addr: target }, x3);
-    }
-    for (word, a, kind) in [
-        (0x0020_01ef, 0, TrapKind::FetchMisaligned),
-        (0x0020_81e7, 0, TrapKind::FetchMisaligned),
-        (0x0000_81e7, 0x1003, TrapKind::FetchMisaligned),
-        (0x0000_0163, 0, TrapKind::FetchMisaligned),
-        (0x0010_0073, 0, TrapKind::Breakpoint),
-        (0x0000_0000, 0, TrapKind::Illegal),
-        (0xffff_ffff, 0, TrapKind::Illegal),
-        (0x0220_81b3, 0, TrapKind::Illegal),
-        (ECALL, 0, TrapKind::UnknownCall),
-    ] {
-        wants(&rt, word, a, 0, trap(kind), 0);
-    }
-}
-
-#[test]
-fn loads_and_stores(rt: HostRuntime) {
-    // lb, lh, lw, lbu, lhu from -4(x1): the value and x3
-    for (word, width, value, x3) in [
-        (0xffc0_8183, Width::Byte, 0x7f, 0x7f),
-        (0xffc0_8183, Width::Byte, 0x80, 0xffff_ff80),
-        (0xffc0_8183, Width::Byte, 0xff, 0xffff_ffff),
-        (0xffc0_9183, Width::Half, 0x7fff, 0x7fff),
-        (0xffc0_9183, Width::Half, 0x8000, 0xffff_8000),
-        (0xffc0_a183, Width::Word, 0x8000_0000, 0x8000_0000),
-        (0xffc0_c183, Width::Byte, 0xff, 0xff),
-        (0xffc0_d183, Width::Half, 0xffff, 0xffff),
-    ] {
-        let mut core = after(&rt, word, 0x104, 0);
-        assert_eq!(rt;
-            core.want(),
-            CoreWant::Load { addr: 0x100, width },
-            "{word:08x}"
-        );
-        load(&rt, &mut core, value);
-        assert_eq!(rt;
-            core.want(),
-            CoreWant::Fetch { addr: PC + 4 },
-            "after {word:08x}"
-        );
-        assert_eq!(rt; core.reg(3), x3, "x3 of {word:08x}");
-    }
-    // sb, sh, sw at -4(x1)
-    for (word, width, value) in [
-        (0xfe20_8e23, Width::Byte, 0x78),
-        (0xfe20_9e23, Width::Half, 0x5678),
-        (0xfe20_ae23, Width::Word, 0x1234_5678),
-    ] {
-        let want = CoreWant::Store {
-            addr: 0x100,
-            width,
-            value,
-        };
-        let mut core = after(&rt, word, 0x104, 0x1234_5678);
-        assert_eq!(rt; core.want(), want, "{word:08x}");
-        store(&rt, &mut core);
-        assert_eq!(rt;
-            core.want(),
-            CoreWant::Fetch { addr: PC + 4 },
-            "after {word:08x}"
-        );
-    }
-    // Misaligned before outside, and outside, at x1 and at 2047(x1); sums wrap.
-    for (word, a, want) in [
-        (0x0000_9183, 1, trap(TrapKind::LoadMisaligned)),
-        (0x0000_a183, 0xffff_fffe, trap(TrapKind::LoadMisaligned)),
-        (0x0000_a183, 0x0010_0000, trap(TrapKind::LoadAccess)),
-        (0x0000_8183, 0xffff_ffff, trap(TrapKind::LoadAccess)),
-        (
-            0x0000_d183,
-            0x000f_fffe,
-            CoreWant::Load {
-                addr: 0x000f_fffe,
-                width: Width::Half,
-            },
-        ),
-        (
-            0x7ff0_c183,
-            0xffff_f801,
-            CoreWant::Load {
-                addr: 0,
-                width: Width::Byte,
-            },
-        ),
-        (0x0020_9023, 3, trap(TrapKind::StoreMisaligned)),
-        (0x0020_a023, 0x0010_0002, trap(TrapKind::StoreMisaligned)),
-        (0x0020_a023, 0x0010_0000, trap(TrapKind::StoreAccess)),
-        (0x0020_8023, 0x0010_0000, trap(TrapKind::StoreAccess)),
-        (
-            0x7e20_8fa3,
-            0xffff_f801,
-            CoreWant::Store {
-                addr: 0,
-                width: Width::Byte,
-                value: 0xff,
-            },
-        ),
-    ] {
-        wants(&rt, word, a, 0x1ff, want, 0);
-    }
-}
-
-// Nothing is written to x0: addi, lui, add and a load.
-#[test]
-fn x0_stays_zero(rt: HostRuntime) {
-    for word in [0x0050_8013, 0xffff_f037, 0x0020_8033] {
-        let core = after(&rt, word, 7, 9);
-        assert_eq!(rt; core.want(), CoreWant::Fetch { addr: PC + 4 });
-        assert_eq!(rt; core.reg(0), 0, "x0 of {word:08x}");
-    }
-    let mut core = after(&rt, 0x0000_8003, 0x100, 0);
-    load(&rt, &mut core, 0xff);
-    assert_eq!(rt; core.reg(0), 0);
-}
-
-// addi x1, x0, 5; lui x2, 0x80000; sw x1, 0(x2); and then ecall with 0 in a7, or a word of no row.
-#[test]
-fn store_and_unknown_call(rt: HostRuntime) {
-    let geometry = Geometry::new(0x8000_0000, 16, 4).expect(&rt, "no such geometry");
-    for (last, kind) in [(ECALL, TrapKind::UnknownCall), (0, TrapKind::Illegal)] {
-        let mut core = Core::new(geometry, 0x8000_0000, 0);
-        fetch(&rt, &mut core, 0x0050_0093);
-        assert_eq!(rt; core.want(), CoreWant::Fetch { addr: 0x8000_0004 });
-        fetch(&rt, &mut core, 0x8000_0137);
-        fetch(&rt, &mut core, 0x0011_2023);
-        let want = CoreWant::Store {
-            addr: 0x8000_0000,
-            width: Width::Word,
-            value: 5,
-        };
-        assert_eq!(rt; core.want(), want);
-        store(&rt, &mut core);
-        assert_eq!(rt; core.want(), CoreWant::Fetch { addr: 0x8000_000c });
-        fetch(&rt, &mut core, last);
-        assert_eq!(rt;
-            core.want(),
-            CoreWant::Ended(Ending::Trap(kind, 0x8000_000c))
-        );
-        assert_eq!(rt; core.reg(1), 5);
-    }
-}
-
-// jalr x1, 1(x2) clears bit 0 of its target; jalr x1, 2(x2) traps and leaves x1.
-#[test]
-fn jump_clears_bit_0(rt: HostRuntime) {
-    let geometry = Geometry::new(0x8000_0000, 16, 4).expect(&rt, "no such geometry");
-    let mut core = Core::new(geometry, 0x8000_0000, 0x8000_0008);
-    fetch(&rt, &mut core, 0x0011_00e7);
-    assert_eq!(rt; core.reg(1), 0x8000_0004);
-    assert_eq!(rt; core.want(), CoreWant::Fetch { addr: 0x8000_0008 });
-    let mut core = Core::new(geometry, 0x8000_0000, 0x8000_0008);
-    fetch(&rt, &mut core, 0x0021_00e7);
-    assert_eq!(rt; core.reg(1), 0);
-    let ended = Ending::Trap(TrapKind::FetchMisaligned, 0x8000_0000);
-    assert_eq!(rt; core.want(), CoreWant::Ended(ended));
-}
-
-// A pc past memory, before it, and one that wraps round 2^32.
-#[test]
-fn pc_outside_memory(rt: HostRuntime) {
-    for (base, pc, after_one) in [
-        (0x8000_0000, 0x8000_0040, None),
-        (0x8000_0000, 0x7fff_fffc, None),
-        (0x8000_0000, 0x8000_003c, Some(0x8000_0040)),
-        (0xffff_ffc0, 0xffff_fffc, Some(0)),
-    ] {
+fn small_programs(rt: HostRuntime) {
+    for row in PROGRAMS.split('\n') {
+        let mut cells = row.split(';');
+        let base = number(&rt, cells.next());
         let geometry = Geometry::new(base, 16, 4).expect(&rt, "no such geometry");
-        let mut core = Core::new(geometry, pc, 0);
-        let mut at = pc;
-        if let Some(next) = after_one {
-            // addi x0, x0, 0
-            fetch(&rt, &mut core, 0x0000_0013);
-            at = next;
+        let pc = number(&rt, cells.next()) & 0xffff_fffc;
+        let mut core = Core::new(geometry, pc, number(&rt, cells.next()));
+        for value in cells.next().unwrap_or("").split(' ') {
+            answer(&rt, &mut core, number(&rt, Some(value)));
         }
-        assert_eq!(rt;
-            core.want(),
-            CoreWant::Ended(Ending::Trap(TrapKind::FetchAccess, at))
-        );
+        wants(&rt, rt.alloc(), &core, cells.next(), row);
+        assert_eq!(rt; core.reg(1), number(&rt, cells.next()), "{row}");
     }
 }
 
@@ -602,20 +314,20 @@ fn console_past_its_end(rt: HostRuntime) {
     let mut core = after(&rt, 0x0010_0893, 0, 0);
     for k in 0u32..4096 {
         // addi a0, x0, k, of which the low byte is printed
-        fetch(&rt, &mut core, (k & 0x7ff) << 20 | 0x513);
-        fetch(&rt, &mut core, ECALL);
+        answer(&rt, &mut core, (k & 0x7ff) << 20 | 0x513);
+        answer(&rt, &mut core, ECALL);
         assert_eq!(rt; core.reg(10), 0, "after byte {k}");
         assert_eq!(rt; core.console().len(), k as usize + 1);
         assert_eq!(rt; core.console().last().copied(), Some((k & 0xff) as u8));
     }
-    fetch(&rt, &mut core, 0x0410_0513);
-    fetch(&rt, &mut core, ECALL);
+    answer(&rt, &mut core, 0x0410_0513);
+    answer(&rt, &mut core, ECALL);
     assert_eq!(rt; core.reg(10), 0xffff_ffff);
     assert_eq!(rt; core.console().len(), 4096);
     assert_eq!(rt; core.console().last().copied(), Some(0xff));
     // addi a7, x0, 93
-    fetch(&rt, &mut core, 0x05d0_0893);
-    fetch(&rt, &mut core, ECALL);
+    answer(&rt, &mut core, 0x05d0_0893);
+    answer(&rt, &mut core, ECALL);
     assert_eq!(rt; core.want(), CoreWant::Ended(Ending::Exit(0xffff_ffff)));
 }
 

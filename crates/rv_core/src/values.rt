@@ -1,11 +1,11 @@
 //! What the operations make of the values of registers and immediates.
 
-ghost use Rattle.std.specs.Prelude.{◌≡◌, ◌<◌};
-ghost use Rattle.rv_core.specs.Effects.{extended};
-ghost use Rattle.rv_core.specs.Decoded.{reg_value, imm_value, shift_value, is_taken, load_width, is_signed_load, store_width};
+ghost use Rattle.std.specs.Prelude.{◌≡◌, ◌<◌, ◌*ℤ◌};
+ghost use Rattle.rv_core.specs.Effects.{signed_of, upper_bits, quotient_signed, remainder_signed};
+ghost use Rattle.rv_core.specs.Decoded.{reg_value, mul_value, imm_value, shift_value, is_taken, load_width, is_signed_load, store_width};
 
 use history::Width;
-use rv_decode::{BranchOp, ImmOp, LoadOp, RegOp, ShiftOp, StoreOp};
+use rv_decode::{BranchOp, ImmOp, LoadOp, MulOp, RegOp, ShiftOp, StoreOp};
 
 // An operation on two registers.
 pub fn register_result(op: RegOp, a: u32, b: u32) -> u32
@@ -22,6 +22,58 @@ pub fn register_result(op: RegOp, a: u32, b: u32) -> u32
         RegOp::Sra => a.cast_signed().wrapping_shr(b).cast_unsigned(),
         RegOp::Or => a | b,
         RegOp::And => a & b,
+    }
+}
+
+// The product of signed numbers.
+fn signed_product(a: u32, b: u32) -> i64
+    ensures { result ≡ signed_of a *ℤ signed_of b }
+{
+    i64::from(a.cast_signed()) * i64::from(b.cast_signed())
+}
+
+// The upper 32 bits of a signed product.
+fn upper_of_signed(product: i64) -> u32
+    ensures { result ≡ upper_bits product }
+{
+    (product.cast_unsigned() >> 32) as u32
+}
+
+// The quotient of signed numbers, rounded towards zero.
+fn signed_quotient(a: u32, b: u32) -> u32
+    ensures { result ≡ quotient_signed a b }
+{
+    if b == 0 {
+        return u32::MAX;
+    }
+    let quotient = a.cast_signed().wrapping_div(b.cast_signed());
+    quotient.cast_unsigned()
+}
+
+// The remainder of signed numbers, with the dividend's sign.
+fn signed_remainder(a: u32, b: u32) -> u32
+    ensures { result ≡ remainder_signed a b }
+{
+    if b == 0 {
+        return a;
+    }
+    let remainder = a.cast_signed().wrapping_rem(b.cast_signed());
+    remainder.cast_unsigned()
+}
+
+// A multiplication or a division of two registers.
+pub fn multiply_result(op: MulOp, a: u32, b: u32) -> u32
+    ensures { result ≡ mul_value op a b }
+{
+    match op {
+        MulOp::Mul => a.wrapping_mul(b),
+        MulOp::Mulh => upper_of_signed(signed_product(a, b)),
+        MulOp::Mulhsu => upper_of_signed(i64::from(a.cast_signed()) * i64::from(b)),
+        MulOp::Mulhu => (u64::from(a) * u64::from(b) >> 32) as u32,
+        MulOp::Div => signed_quotient(a, b),
+        MulOp::Divu => a.checked_div(b).unwrap_or(u32::MAX),
+        MulOp::Rem => signed_remainder(a, b),
+        MulOp::Remu => a.checked_rem(b).unwrap_or(a),
     }
 }
 

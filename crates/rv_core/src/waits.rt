@@ -7,7 +7,7 @@ use history::Width;
 /// Why an application is stopped.
 #[derive(Clone, Copy, Debug, PartialEq, Eq)]
 pub enum TrapKind {
-    /// The word is none of RV32I.
+    /// The word is none of RV32IM.
     Illegal,
     /// The word at the pc lies outside memory.
     FetchAccess,

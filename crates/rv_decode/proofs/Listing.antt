@@ -1,4 +1,4 @@
--- A word has a row exactly where it fits what the row fixes.
+-- A word has a row exactly where it has what the row fixes.
 use Rattle.std.proofs.Common.{◌≡◌, ℕ, ◌<◌, ◌^◌, ◌&&◌, Bool, true, cond, eqb, inl, inr, List, [], ◌∷◌, Some, find, lit<, refl, sym, ap, ◌∙◌, subst}
 use Rattle.std.proofs.lemmas.Bool.{and_parts, eqb-true, cases_Bool}
 use Rattle.std.proofs.lemmas.Option.{same_Some}
@@ -14,8 +14,10 @@ use Rattle.rv_decode.specs.declared.instruction.ShiftOp.{ShiftOp}
 use Rattle.rv_decode.specs.declared.instruction.ShiftOp.TheVariants.{Slli, Srli, Srai}
 use Rattle.rv_decode.specs.declared.instruction.RegOp.{RegOp}
 use Rattle.rv_decode.specs.declared.instruction.RegOp.TheVariants.{Add, Sub, Sll, Slt, Sltu, Xor, Srl, Sra, Or, And}
-use Rattle.rv_decode.specs.Table.{Row, LUI, AUIPC, JAL, JALR, BEQ, BNE, BLT, BGE, BLTU, BGEU, LB, LH, LW, LBU, LHU, SB, SH, SW, ADDI, SLTI, SLTIU, XORI, ORI, ANDI, SLLI, SRLI, SRAI, ADD, SUB, SLL, SLT, SLTU, XOR, SRL, SRA, OR, AND, FENCE, ECALL, EBREAK, by_funct3, by_funct7, fixed, fits, rows, listed}
-use Rattle.rv_decode.specs.Words.{branch_row, load_row, store_row, imm_row, shift_row, reg_row}
+use Rattle.rv_decode.specs.declared.instruction.MulOp.{MulOp}
+use Rattle.rv_decode.specs.declared.instruction.MulOp.TheVariants.{Mul, Mulh, Mulhsu, Mulhu, Div, Divu, Rem, Remu}
+use Rattle.rv_decode.specs.Table.{Row, LUI, AUIPC, JAL, JALR, BEQ, BNE, BLT, BGE, BLTU, BGEU, LB, LH, LW, LBU, LHU, SB, SH, SW, ADDI, SLTI, SLTIU, XORI, ORI, ANDI, SLLI, SRLI, SRAI, ADD, SUB, SLL, SLT, SLTU, XOR, SRL, SRA, OR, AND, FENCE, ECALL, EBREAK, MUL, MULH, MULHSU, MULHU, DIV, DIVU, REM, REMU, by_funct3, by_funct7, fixed, has_fixed, rows, listed}
+use Rattle.rv_decode.specs.Words.{branch_row, load_row, store_row, imm_row, shift_row, reg_row, mul_row}
 
 -- what a search finds passes the test
 found_passes : {X : Type 0} (p : X → Bool) (xs : List X) (y : X) → find p xs ≡ Some y → p y ≡ true
@@ -25,9 +27,9 @@ found_passes p (x ∷ xs) y h = elim (cases_Bool (p x)) [
   | inr e ↦ found_passes p xs y (sym (ap (λ b. cond b (Some x) (find p xs)) e) ∙ h)
 ]
 
-pub listed_fits : (row : Row) (op f g r : ℕ) → listed op f g r ≡ Some row → fits (fixed row) op f g r ≡ true
+pub listed_fits : (row : Row) (op f g r : ℕ) → listed op f g r ≡ Some row → has_fixed (fixed row) op f g r ≡ true
 unfolding listed
-listed_fits row op f g r h = found_passes (λ x. fits (fixed x) op f g r) rows row h
+listed_fits row op f g r h = found_passes (λ x. has_fixed (fixed x) op f g r) rows row h
 
 -- where it is enough to look at the numbers that the row fixes
 
@@ -51,7 +53,7 @@ from_word o w row h op f g r e =
     let t = and_parts (eqb op o) (eqb r w) e in
     subst (λ x. listed x f g r ≡ Some row) (sym (eqb-true op o t.0)) (subst (λ x. listed o f g x ≡ Some row) (sym (eqb-true r w t.1)) (h f g))
 
-pub fits_listed : (row : Row) (op f g r : ℕ) → fits (fixed row) op f g r ≡ true → listed op f g r ≡ Some row
+pub fits_listed : (row : Row) (op f g r : ℕ) → has_fixed (fixed row) op f g r ≡ true → listed op f g r ≡ Some row
 unfolding listed
 fits_listed LUI = from_opcode 0b0110111 LUI (λ f g r. refl)
 fits_listed AUIPC = from_opcode 0b0010111 AUIPC (λ f g r. refl)
@@ -93,6 +95,14 @@ fits_listed AND = from_funct7 0b0110011 0b111 0b0000000 AND (λ r. refl)
 fits_listed FENCE = from_funct3 0b0001111 0b000 FENCE (λ g r. refl)
 fits_listed ECALL = from_word 0b1110011 0b000000000000_00000_000_00000 ECALL (λ f g. refl)
 fits_listed EBREAK = from_word 0b1110011 0b000000000001_00000_000_00000 EBREAK (λ f g. refl)
+fits_listed MUL = from_funct7 0b0110011 0b000 0b0000001 MUL (λ r. refl)
+fits_listed MULH = from_funct7 0b0110011 0b001 0b0000001 MULH (λ r. refl)
+fits_listed MULHSU = from_funct7 0b0110011 0b010 0b0000001 MULHSU (λ r. refl)
+fits_listed MULHU = from_funct7 0b0110011 0b011 0b0000001 MULHU (λ r. refl)
+fits_listed DIV = from_funct7 0b0110011 0b100 0b0000001 DIV (λ r. refl)
+fits_listed DIVU = from_funct7 0b0110011 0b101 0b0000001 DIVU (λ r. refl)
+fits_listed REM = from_funct7 0b0110011 0b110 0b0000001 REM (λ r. refl)
+fits_listed REMU = from_funct7 0b0110011 0b111 0b0000001 REMU (λ r. refl)
 
 -- what the rows of the operations fix
 
@@ -152,3 +162,13 @@ reg_fixes Srl = record { f = 0b101; g = 0b0000000; small = lit< tt; small7 = lit
 reg_fixes Sra = record { f = 0b101; g = 0b0100000; small = lit< tt; small7 = lit< tt; is = refl }
 reg_fixes Or = record { f = 0b110; g = 0b0000000; small = lit< tt; small7 = lit< tt; is = refl }
 reg_fixes And = record { f = 0b111; g = 0b0000000; small = lit< tt; small7 = lit< tt; is = refl }
+
+pub mul_fixes : (op : MulOp) → HasFunct7 0b0110011 (mul_row op)
+mul_fixes Mul = record { f = 0b000; g = 0b0000001; small = lit< tt; small7 = lit< tt; is = refl }
+mul_fixes Mulh = record { f = 0b001; g = 0b0000001; small = lit< tt; small7 = lit< tt; is = refl }
+mul_fixes Mulhsu = record { f = 0b010; g = 0b0000001; small = lit< tt; small7 = lit< tt; is = refl }
+mul_fixes Mulhu = record { f = 0b011; g = 0b0000001; small = lit< tt; small7 = lit< tt; is = refl }
+mul_fixes Div = record { f = 0b100; g = 0b0000001; small = lit< tt; small7 = lit< tt; is = refl }
+mul_fixes Divu = record { f = 0b101; g = 0b0000001; small = lit< tt; small7 = lit< tt; is = refl }
+mul_fixes Rem = record { f = 0b110; g = 0b0000001; small = lit< tt; small7 = lit< tt; is = refl }
+mul_fixes Remu = record { f = 0b111; g = 0b0000001; small = lit< tt; small7 = lit< tt; is = refl }

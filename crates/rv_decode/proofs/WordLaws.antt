@@ -1,41 +1,44 @@
 -- The word of an instruction has its row and its fields, and an instruction with a word's row and fields has the
 -- word. One lemma for each format and direction, over the numbers alone.
 use Rattle.std.proofs.Common.{◌≡◌, ℕ, ◌<◌, ◌+◌, ◌*◌, ◌%◌, ◌^◌, ◌&&◌, ℤ, Bool, true, cond, eqb, ltb, IsTrue, ◌↔◌, Option, Some, None, IfSome, lit<, refl, sym, ap, ◌∙◌, subst, arith}
+use Rattle.std.specs.Option.{IsNone, option_map}
 use Rattle.std.proofs.lemmas.Bool.{and_parts, and_from, ltb-true, lt-ltb, eqb-true, eq-eqb}
 use Rattle.std.proofs.lemmas.Option.{cond_some, same_Some, none-some}
 use Rattle.rv_decode.specs.declared.instruction.Instr.{Instr}
-use Rattle.rv_decode.specs.declared.instruction.Instr.TheVariants.{Lui, Auipc, Jal, Jalr, Branch, Load, Store, Imm, Shift, Reg, Fence, Ecall, Ebreak}
+use Rattle.rv_decode.specs.declared.instruction.Instr.TheVariants.{Lui, Auipc, Jal, Jalr, Branch, Load, Store, Imm, Shift, Reg, Mul as Multiply, Fence, Ecall, Ebreak}
 use Rattle.rv_decode.specs.declared.instruction.BranchOp.TheVariants.{Beq, Bne, Blt, Bge, Bltu, Bgeu}
 use Rattle.rv_decode.specs.declared.instruction.LoadOp.TheVariants.{Lb, Lh, Lw, Lbu, Lhu}
 use Rattle.rv_decode.specs.declared.instruction.StoreOp.TheVariants.{Sb, Sh, Sw}
 use Rattle.rv_decode.specs.declared.instruction.ImmOp.TheVariants.{Addi, Slti, Sltiu, Xori, Ori, Andi}
 use Rattle.rv_decode.specs.declared.instruction.ShiftOp.TheVariants.{Slli, Srli, Srai}
 use Rattle.rv_decode.specs.declared.instruction.RegOp.TheVariants.{Add, Sub, Sll, Slt, Sltu, Xor, Srl, Sra, Or, And}
+use Rattle.rv_decode.specs.declared.instruction.MulOp.TheVariants.{Mul, Mulh, Mulhsu, Mulhu, Div, Divu, Rem, Remu}
 use Rattle.rv_decode.specs.Fields.{field, opcode, rd, funct3, rs1, rs2, funct7, rest, signed, upper12, imm_i, imm_s, imm_b, imm_u, imm_j}
-use Rattle.rv_decode.specs.Table.{Row, LUI, AUIPC, JAL, JALR, BEQ, BNE, BLT, BGE, BLTU, BGEU, LB, LH, LW, LBU, LHU, SB, SH, SW, ADDI, SLTI, SLTIU, XORI, ORI, ANDI, SLLI, SRLI, SRAI, ADD, SUB, SLL, SLT, SLTU, XOR, SRL, SRA, OR, AND, FENCE, ECALL, EBREAK, Fixed, by_opcode, by_funct3, by_funct7, by_word, fixed, fits, listed, row_of}
-use Rattle.rv_decode.specs.Words.{branch_row, load_row, store_row, imm_row, shift_row, reg_row, instr_row, is_register, is_imm12, is_branch_offset, is_jump_offset, fixed_bits, imm_bits, r_operands, i_operands, s_operands, b_operands, u_operands, j_operands, word_of, HasFields, IsInstruction, Decodes}
+use Rattle.rv_decode.specs.Table.{Row, LUI, AUIPC, JAL, JALR, BEQ, BNE, BLT, BGE, BLTU, BGEU, LB, LH, LW, LBU, LHU, SB, SH, SW, ADDI, SLTI, SLTIU, XORI, ORI, ANDI, SLLI, SRLI, SRAI, ADD, SUB, SLL, SLT, SLTU, XOR, SRL, SRA, OR, AND, FENCE, ECALL, EBREAK, MUL, MULH, MULHSU, MULHU, DIV, DIVU, REM, REMU, Fixed, by_opcode, by_funct3, by_funct7, by_word, fixed, has_fixed, listed, row_of}
+use Rattle.rv_decode.specs.Words.{branch_row, load_row, store_row, imm_row, shift_row, reg_row, mul_row, instr_row, is_register, is_imm12, is_branch_offset, is_jump_offset, fixed_bits, imm_bits, r_operands, i_operands, s_operands, b_operands, u_operands, j_operands, word_of, instr_in, instr_of}
 use Rattle.rv_decode.proofs.Sums.{r_parts, i_parts, s_parts, b_parts, u_parts, j_parts, r_sum, i_sum, s_sum, b_sum, u_sum, j_sum, word_sum, upper12-split, upper20-split, bit31-split, bits21-split, bit20-split, bits12-split}
 use Rattle.rv_decode.proofs.Immediates.{Stands, stands, imm12_back, imm12_fits, imm12_bits, store_whole, store_low, store_high, offset13, branch_whole, branch_back, branch_even, branch_fits, branch_bits, branch_low, branch_mid, branch_11, branch_12, offset21, jump_whole, jump_back, jump_even, jump_fits, jump_bits, jump_low, jump_11, jump_mid, jump_20}
-use Rattle.rv_decode.proofs.Listing.{listed_fits, fits_listed, HasFunct3, HasFunct7, branch_fixes, load_fixes, store_fixes, imm_fixes, shift_fixes, reg_fixes}
+use Rattle.rv_decode.proofs.Listing.{listed_fits, fits_listed, HasFunct3, HasFunct7, branch_fixes, load_fixes, store_fixes, imm_fixes, shift_fixes, reg_fixes, mul_fixes}
+use Rattle.rv_decode.proofs.Rows.{at_row}
 
 -- ---- rows
 
 row_by_opcode : (o : ℕ) (row : Row) → fixed row ≡ by_opcode o → (w : ℕ) → opcode w ≡ o → row_of w ≡ Some row
-row_by_opcode o row s w e = fits_listed row (opcode w) (funct3 w) (funct7 w) (rest w) (ap (λ x. fits x (opcode w) (funct3 w) (funct7 w) (rest w)) s ∙ eq-eqb (opcode w) o e)
+row_by_opcode o row s w e = fits_listed row (opcode w) (funct3 w) (funct7 w) (rest w) (ap (λ x. has_fixed x (opcode w) (funct3 w) (funct7 w) (rest w)) s ∙ eq-eqb (opcode w) o e)
 
 row_by_funct3 : (o : ℕ) (row : Row) (s : HasFunct3 o row) (w : ℕ) → opcode w ≡ o → funct3 w ≡ s.f → row_of w ≡ Some row
 row_by_funct3 o row s w e e3 = fits_listed row (opcode w) (funct3 w) (funct7 w) (rest w)
-    (ap (λ x. fits x (opcode w) (funct3 w) (funct7 w) (rest w)) s.is
+    (ap (λ x. has_fixed x (opcode w) (funct3 w) (funct7 w) (rest w)) s.is
     ∙ and_from (eqb (opcode w) o) (eqb (funct3 w) s.f) (eq-eqb (opcode w) o e) (eq-eqb (funct3 w) s.f e3))
 
 row_by_funct7 : (o : ℕ) (row : Row) (s : HasFunct7 o row) (w : ℕ) → opcode w ≡ o → funct3 w ≡ s.f → funct7 w ≡ s.g → row_of w ≡ Some row
 row_by_funct7 o row s w e e3 e7 = fits_listed row (opcode w) (funct3 w) (funct7 w) (rest w)
-    (ap (λ x. fits x (opcode w) (funct3 w) (funct7 w) (rest w)) s.is
+    (ap (λ x. has_fixed x (opcode w) (funct3 w) (funct7 w) (rest w)) s.is
     ∙ and_from (eqb (opcode w) o && eqb (funct3 w) s.f) (eqb (funct7 w) s.g)
     (and_from (eqb (opcode w) o) (eqb (funct3 w) s.f) (eq-eqb (opcode w) o e) (eq-eqb (funct3 w) s.f e3)) (eq-eqb (funct7 w) s.g e7))
 
-row_fits : (row : Row) (x : Fixed) (w : ℕ) → fixed row ≡ x → row_of w ≡ Some row → fits x (opcode w) (funct3 w) (funct7 w) (rest w) ≡ true
-row_fits row x w s h = sym (ap (λ y. fits y (opcode w) (funct3 w) (funct7 w) (rest w)) s) ∙ listed_fits row (opcode w) (funct3 w) (funct7 w) (rest w) h
+row_fits : (row : Row) (x : Fixed) (w : ℕ) → fixed row ≡ x → row_of w ≡ Some row → has_fixed x (opcode w) (funct3 w) (funct7 w) (rest w) ≡ true
+row_fits row x w s h = sym (ap (λ y. has_fixed y (opcode w) (funct3 w) (funct7 w) (rest w)) s) ∙ listed_fits row (opcode w) (funct3 w) (funct7 w) (rest w) h
 
 base_by_funct3 : (o : ℕ) (row : Row) (s : HasFunct3 o row) (w : ℕ) → row_of w ≡ Some row → fixed_bits (fixed row) ≡ opcode w + funct3 w * 2 ^ 12
 base_by_funct3 o row s w h =
@@ -256,6 +259,28 @@ write_j o row s d imm w h r ed ei =
 
 -- ---- the laws
 
+-- the fields of the word are those of the instruction
+abbrev HasFields : ℕ → Instr → Type 0
+HasFields word (Lui d imm) = (d ≡ rd word) × (imm ≡ imm_u word)
+HasFields word (Auipc d imm) = (d ≡ rd word) × (imm ≡ imm_u word)
+HasFields word (Jal d imm) = (d ≡ rd word) × (imm ≡ imm_j word)
+HasFields word (Jalr d a imm) = (d ≡ rd word) × (a ≡ rs1 word) × (imm ≡ imm_i word)
+HasFields word (Branch op a b imm) = (a ≡ rs1 word) × (b ≡ rs2 word) × (imm ≡ imm_b word)
+HasFields word (Load op d a imm) = (d ≡ rd word) × (a ≡ rs1 word) × (imm ≡ imm_i word)
+HasFields word (Store op a b imm) = (a ≡ rs1 word) × (b ≡ rs2 word) × (imm ≡ imm_s word)
+HasFields word (Imm op d a imm) = (d ≡ rd word) × (a ≡ rs1 word) × (imm ≡ imm_i word)
+HasFields word (Shift op d a shamt) = (d ≡ rd word) × (a ≡ rs1 word) × (shamt ≡ rs2 word)
+HasFields word (Reg op d a b) = (d ≡ rd word) × (a ≡ rs1 word) × (b ≡ rs2 word)
+HasFields word (Multiply op d a b) = (d ≡ rd word) × (a ≡ rs1 word) × (b ≡ rs2 word)
+HasFields word (Fence d a imm) = (d ≡ rd word) × (a ≡ rs1 word) × (imm ≡ upper12 word)
+HasFields word Ecall = Unit {0}
+HasFields word Ebreak = Unit {0}
+
+-- the word's row and its fields are the instruction's
+record IsInstruction (word : ℕ) (instr : Instr) : Type 0 where
+  row : row_of word ≡ Some (instr_row instr)
+  fields : HasFields word instr
+
 jalr_fixes : HasFunct3 0b1100111 JALR
 jalr_fixes = record { f = 0; small = lit< tt; is = refl }
 
@@ -275,7 +300,7 @@ write_word o r row s w h e =
     let t = and_parts (eqb (opcode w) o) (eqb (rest w) r) (row_fits row (by_word o r) w s e) in
     word_sum w o r (sym (eqb-true (opcode w) o t.0)) (sym (eqb-true (rest w) r t.1)) h
 
-pub reads : (instr : Instr) (w : ℕ) → word_of instr ≡ Some w → (w < 2 ^ 32) × IsInstruction w instr
+reads : (instr : Instr) (w : ℕ) → word_of instr ≡ Some w → (w < 2 ^ 32) × IsInstruction w instr
 unfolding word_of
 reads (Lui d imm) w h =
     let t = cond_some _ _ _ h in
@@ -317,6 +342,10 @@ reads (Reg op d a b) w h =
     let t = cond_some _ _ _ h in
     let p = read_r 0b0110011 (reg_row op) (reg_fixes op) d a b w (lit< tt) t.0 t.1 in
     (p.0, record { row = p.1; fields = (p.2, p.3, p.4) })
+reads (Multiply op d a b) w h =
+    let t = cond_some _ _ _ h in
+    let p = read_r 0b0110011 (mul_row op) (mul_fixes op) d a b w (lit< tt) t.0 t.1 in
+    (p.0, record { row = p.1; fields = (p.2, p.3, p.4) })
 reads (Fence d a imm) w h =
     let t = cond_some _ _ _ h in
     let u = and_parts (is_register d && is_register a) (ltb imm 4096) t.0 in
@@ -331,7 +360,7 @@ reads Ebreak w h = subst (λ x. (x < 2 ^ 32) × IsInstruction x Ebreak) (same_So
 given_some : (b : Bool) (x y : ℕ) → b ≡ true → x ≡ y → cond b (Some x) None ≡ Some y
 given_some b x y e h = rw e (ap Some h)
 
-pub writes : (instr : Instr) (w : ℕ) → w < 2 ^ 32 → IsInstruction w instr → word_of instr ≡ Some w
+writes : (instr : Instr) (w : ℕ) → w < 2 ^ 32 → IsInstruction w instr → word_of instr ≡ Some w
 unfolding word_of
 writes (Lui d imm) w h i =
     let p = write_u 0b0110111 LUI refl d imm w h i.row i.fields.0 i.fields.1 in
@@ -363,6 +392,9 @@ writes (Shift op d a shamt) w h i =
 writes (Reg op d a b) w h i =
     let p = write_r 0b0110011 (reg_row op) (reg_fixes op) d a b w h i.row i.fields.0 i.fields.1 i.fields.2 in
     given_some _ _ w p.0 p.1
+writes (Multiply op d a b) w h i =
+    let p = write_r 0b0110011 (mul_row op) (mul_fixes op) d a b w h i.row i.fields.0 i.fields.1 i.fields.2 in
+    given_some _ _ w p.0 p.1
 writes (Fence d a imm) w h i =
     let ed : d ≡ rd w = i.fields.0 in
     let ea : a ≡ rs1 w = i.fields.1 in
@@ -373,52 +405,9 @@ writes (Fence d a imm) w h i =
 writes Ecall w h i = ap Some (write_word 0b1110011 0 ECALL refl w h i.row)
 writes Ebreak w h i = ap Some (write_word 0b1110011 8192 EBREAK refl w h i.row)
 
--- ---- one instruction for each word
+-- ---- the instruction of a word
 
--- the instruction of a row with a word's fields
-abbrev instr_at : ℕ → Row → Instr
-instr_at w LUI = Lui (rd w) (imm_u w)
-instr_at w AUIPC = Auipc (rd w) (imm_u w)
-instr_at w JAL = Jal (rd w) (imm_j w)
-instr_at w JALR = Jalr (rd w) (rs1 w) (imm_i w)
-instr_at w BEQ = Branch Beq (rs1 w) (rs2 w) (imm_b w)
-instr_at w BNE = Branch Bne (rs1 w) (rs2 w) (imm_b w)
-instr_at w BLT = Branch Blt (rs1 w) (rs2 w) (imm_b w)
-instr_at w BGE = Branch Bge (rs1 w) (rs2 w) (imm_b w)
-instr_at w BLTU = Branch Bltu (rs1 w) (rs2 w) (imm_b w)
-instr_at w BGEU = Branch Bgeu (rs1 w) (rs2 w) (imm_b w)
-instr_at w LB = Load Lb (rd w) (rs1 w) (imm_i w)
-instr_at w LH = Load Lh (rd w) (rs1 w) (imm_i w)
-instr_at w LW = Load Lw (rd w) (rs1 w) (imm_i w)
-instr_at w LBU = Load Lbu (rd w) (rs1 w) (imm_i w)
-instr_at w LHU = Load Lhu (rd w) (rs1 w) (imm_i w)
-instr_at w SB = Store Sb (rs1 w) (rs2 w) (imm_s w)
-instr_at w SH = Store Sh (rs1 w) (rs2 w) (imm_s w)
-instr_at w SW = Store Sw (rs1 w) (rs2 w) (imm_s w)
-instr_at w ADDI = Imm Addi (rd w) (rs1 w) (imm_i w)
-instr_at w SLTI = Imm Slti (rd w) (rs1 w) (imm_i w)
-instr_at w SLTIU = Imm Sltiu (rd w) (rs1 w) (imm_i w)
-instr_at w XORI = Imm Xori (rd w) (rs1 w) (imm_i w)
-instr_at w ORI = Imm Ori (rd w) (rs1 w) (imm_i w)
-instr_at w ANDI = Imm Andi (rd w) (rs1 w) (imm_i w)
-instr_at w SLLI = Shift Slli (rd w) (rs1 w) (rs2 w)
-instr_at w SRLI = Shift Srli (rd w) (rs1 w) (rs2 w)
-instr_at w SRAI = Shift Srai (rd w) (rs1 w) (rs2 w)
-instr_at w ADD = Reg Add (rd w) (rs1 w) (rs2 w)
-instr_at w SUB = Reg Sub (rd w) (rs1 w) (rs2 w)
-instr_at w SLL = Reg Sll (rd w) (rs1 w) (rs2 w)
-instr_at w SLT = Reg Slt (rd w) (rs1 w) (rs2 w)
-instr_at w SLTU = Reg Sltu (rd w) (rs1 w) (rs2 w)
-instr_at w XOR = Reg Xor (rd w) (rs1 w) (rs2 w)
-instr_at w SRL = Reg Srl (rd w) (rs1 w) (rs2 w)
-instr_at w SRA = Reg Sra (rd w) (rs1 w) (rs2 w)
-instr_at w OR = Reg Or (rd w) (rs1 w) (rs2 w)
-instr_at w AND = Reg And (rd w) (rs1 w) (rs2 w)
-instr_at w FENCE = Fence (rd w) (rs1 w) (upper12 w)
-instr_at w ECALL = Ecall
-instr_at w EBREAK = Ebreak
-
-from_row : (w : ℕ) (i : Instr) → HasFields w i → i ≡ instr_at w (instr_row i)
+from_row : (w : ℕ) (i : Instr) → HasFields w i → i ≡ instr_in (instr_row i) w
 from_row w (Lui d x) h = cc
 from_row w (Auipc d x) h = cc
 from_row w (Jal d x) h = cc
@@ -456,21 +445,127 @@ from_row w (Reg Srl d a b) h = cc
 from_row w (Reg Sra d a b) h = cc
 from_row w (Reg Or d a b) h = cc
 from_row w (Reg And d a b) h = cc
+from_row w (Multiply Mul d a b) h = cc
+from_row w (Multiply Mulh d a b) h = cc
+from_row w (Multiply Mulhsu d a b) h = cc
+from_row w (Multiply Mulhu d a b) h = cc
+from_row w (Multiply Div d a b) h = cc
+from_row w (Multiply Divu d a b) h = cc
+from_row w (Multiply Rem d a b) h = cc
+from_row w (Multiply Remu d a b) h = cc
 from_row w (Fence d a x) h = cc
 from_row w Ecall h = refl
 from_row w Ebreak h = refl
 
-pub one_instruction : (w : ℕ) (i j : Instr) → IsInstruction w i → IsInstruction w j → i ≡ j
-one_instruction w i j hi hj =
-    from_row w i hi.fields ∙ ap (instr_at w) (same_Some _ _ (sym hi.row ∙ hj.row)) ∙ sym (from_row w j hj.fields)
+in_row : (row : Row) (w : ℕ) → (instr_row (instr_in row w) ≡ row) × HasFields w (instr_in row w)
+in_row LUI w = (refl, (refl, refl))
+in_row AUIPC w = (refl, (refl, refl))
+in_row JAL w = (refl, (refl, refl))
+in_row JALR w = (refl, (refl, refl, refl))
+in_row BEQ w = (refl, (refl, refl, refl))
+in_row BNE w = (refl, (refl, refl, refl))
+in_row BLT w = (refl, (refl, refl, refl))
+in_row BGE w = (refl, (refl, refl, refl))
+in_row BLTU w = (refl, (refl, refl, refl))
+in_row BGEU w = (refl, (refl, refl, refl))
+in_row LB w = (refl, (refl, refl, refl))
+in_row LH w = (refl, (refl, refl, refl))
+in_row LW w = (refl, (refl, refl, refl))
+in_row LBU w = (refl, (refl, refl, refl))
+in_row LHU w = (refl, (refl, refl, refl))
+in_row SB w = (refl, (refl, refl, refl))
+in_row SH w = (refl, (refl, refl, refl))
+in_row SW w = (refl, (refl, refl, refl))
+in_row ADDI w = (refl, (refl, refl, refl))
+in_row SLTI w = (refl, (refl, refl, refl))
+in_row SLTIU w = (refl, (refl, refl, refl))
+in_row XORI w = (refl, (refl, refl, refl))
+in_row ORI w = (refl, (refl, refl, refl))
+in_row ANDI w = (refl, (refl, refl, refl))
+in_row SLLI w = (refl, (refl, refl, refl))
+in_row SRLI w = (refl, (refl, refl, refl))
+in_row SRAI w = (refl, (refl, refl, refl))
+in_row ADD w = (refl, (refl, refl, refl))
+in_row SUB w = (refl, (refl, refl, refl))
+in_row SLL w = (refl, (refl, refl, refl))
+in_row SLT w = (refl, (refl, refl, refl))
+in_row SLTU w = (refl, (refl, refl, refl))
+in_row XOR w = (refl, (refl, refl, refl))
+in_row SRL w = (refl, (refl, refl, refl))
+in_row SRA w = (refl, (refl, refl, refl))
+in_row OR w = (refl, (refl, refl, refl))
+in_row AND w = (refl, (refl, refl, refl))
+in_row FENCE w = (refl, (refl, refl, refl))
+in_row ECALL w = (refl, tt)
+in_row EBREAK w = (refl, tt)
+in_row MUL w = (refl, (refl, refl, refl))
+in_row MULH w = (refl, (refl, refl, refl))
+in_row MULHSU w = (refl, (refl, refl, refl))
+in_row MULHU w = (refl, (refl, refl, refl))
+in_row DIV w = (refl, (refl, refl, refl))
+in_row DIVU w = (refl, (refl, refl, refl))
+in_row REM w = (refl, (refl, refl, refl))
+in_row REMU w = (refl, (refl, refl, refl))
 
-pub row_is : (row : Row) (w : ℕ) → (row_of w ≡ Some row) ↔ IsTrue (fits (fixed row) (opcode w) (funct3 w) (funct7 w) (rest w))
+-- an instruction has a word's row and fields exactly where it is the word's
+
+is_found : (w : ℕ) (i : Instr) → IsInstruction w i → instr_of w ≡ Some i
+is_found w i h = sym (at_row w (instr_row i) h.row) ∙ ap Some (sym (from_row w i h.fields))
+
+in_known_row : (w : ℕ) (row : Row) (i : Instr) → row_of w ≡ Some row → instr_in row w ≡ i → IsInstruction w i
+in_known_row w row i r e =
+    let p = in_row row w in
+    subst (IsInstruction w) e (record { row = r ∙ ap Some (sym p.0); fields = p.1 })
+
+found_in : (w : ℕ) (row : Option Row) (i : Instr) → row_of w ≡ row → option_map (λ r. instr_in r w) row ≡ Some i → IsInstruction w i
+found_in w None i r e = absurd (none-some _ e)
+found_in w (Some row) i r e = in_known_row w row i r (same_Some _ _ e)
+
+found_is : (w : ℕ) (i : Instr) → instr_of w ≡ Some i → IsInstruction w i
+unfolding instr_of
+found_is w i h = found_in w (row_of w) i refl h
+
+pub reads_word : (i : Instr) (w : ℕ) → word_of i ≡ Some w → (w < 2 ^ 32) × (instr_of w ≡ Some i)
+reads_word i w h = let p = reads i w h in (p.0, is_found w i p.1)
+
+pub writes_word : (i : Instr) (w : ℕ) → w < 2 ^ 32 → instr_of w ≡ Some i → word_of i ≡ Some w
+writes_word i w small h = writes i w small (found_is w i h)
+
+pub has_row : (i : Instr) (w : ℕ) → instr_of w ≡ Some i → row_of w ≡ Some (instr_row i)
+has_row i w h = (found_is w i h).row
+
+pub one_instruction : (i j : Instr) (w : ℕ) → word_of i ≡ Some w → word_of j ≡ Some w → i ≡ j
+one_instruction i j w hi hj = same_Some i j (sym (reads_word i w hi).1 ∙ (reads_word j w hj).1)
+
+pub row_is : (row : Row) (w : ℕ) → (row_of w ≡ Some row) ↔ IsTrue (has_fixed (fixed row) (opcode w) (funct3 w) (funct7 w) (rest w))
 row_is row w = (listed_fits row (opcode w) (funct3 w) (funct7 w) (rest w), fits_listed row (opcode w) (funct3 w) (funct7 w) (rest w))
 
-pub found_of : (w : ℕ) (r : Option Instr) → w < 2 ^ 32 → Decodes w r → IfSome r (λ instr. word_of instr ≡ Some w)
+pub found_of : (w : ℕ) (r : Option Instr) → w < 2 ^ 32 → r ≡ instr_of w → IfSome r (λ instr. word_of instr ≡ Some w)
 found_of w None h d = tt
-found_of w (Some i) h d = writes i w h d
+found_of w (Some i) h d = writes_word i w h (sym d)
 
-pub only_of : (w : ℕ) (r : Option Instr) → Decodes w r → (instr : Instr) → word_of instr ≡ Some w → r ≡ Some instr
-only_of w None d i h = absurd (none-some _ (sym d ∙ (reads i w h).1.row))
-only_of w (Some j) d i h = ap Some (one_instruction w j i d (reads i w h).1)
+pub only_of : (w : ℕ) (r : Option Instr) → r ≡ instr_of w → (instr : Instr) → word_of instr ≡ Some w → r ≡ Some instr
+only_of w r d i h = d ∙ (reads_word i w h).1
+
+none_in : (w : ℕ) (row : Option Row) → row_of w ≡ row → option_map (λ r. instr_in r w) row ≡ None → row_of w ≡ None
+none_in w None r e = r
+none_in w (Some row) r e = absurd (none-some _ (sym e))
+
+none_is : (w : ℕ) → instr_of w ≡ None → row_of w ≡ None
+unfolding instr_of
+none_is w h = none_in w (row_of w) refl h
+
+is_none_of : (w : ℕ) → row_of w ≡ None → instr_of w ≡ None
+unfolding instr_of
+is_none_of w h = rw h refl
+
+as_none : (r : Option Instr) → IsNone r → r ≡ None
+as_none None h = refl
+as_none (Some i) h = cc
+
+none_as : (r : Option Instr) → r ≡ None → IsNone r
+none_as None h = refl
+none_as (Some i) h = absurd (none-some _ (sym h))
+
+pub none_of : (w : ℕ) (r : Option Instr) → r ≡ instr_of w → IsNone r ↔ (row_of w ≡ None)
+none_of w r d = (λ n. none_is w (sym d ∙ as_none r n), λ h. none_as r (d ∙ is_none_of w h))

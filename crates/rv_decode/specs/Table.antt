@@ -1,5 +1,5 @@
--- The listing of RV32I: RISC-V Unprivileged ISA, chapter "RV32/64G Instruction Set Listings", table "RV32I Base
--- Instruction Set". It stands on the numeric fields of a word alone.
+-- The listing of RV32IM: RISC-V Unprivileged ISA, chapter "RV32/64G Instruction Set Listings", tables "RV32I Base
+-- Instruction Set" and "RV32M Standard Extension". It stands on the numeric fields of a word alone.
 use Rattle.std.specs.Prelude.{ℕ, Bool, ◌&&◌, ◌==◌, List, [], ◌∷◌, Option}
 use Rattle.std.specs.List.{find}
 use Rattle.rv_decode.specs.Fields.{opcode, funct3, funct7, rest}
@@ -46,6 +46,14 @@ pub data Row : Type 0 where
   FENCE : Row
   ECALL : Row
   EBREAK : Row
+  MUL : Row
+  MULH : Row
+  MULHSU : Row
+  MULHU : Row
+  DIV : Row
+  DIVU : Row
+  REM : Row
+  REMU : Row
 
 -- what a row fixes: its opcode, and where the listing gives them its funct3 and funct7; or the whole word, as its
 -- opcode and the bits above it
@@ -96,13 +104,21 @@ fixed AND = by_funct7 0b0110011 0b111 0b0000000
 fixed FENCE = by_funct3 0b0001111 0b000
 fixed ECALL = by_word 0b1110011 0b000000000000_00000_000_00000
 fixed EBREAK = by_word 0b1110011 0b000000000001_00000_000_00000
+fixed MUL = by_funct7 0b0110011 0b000 0b0000001
+fixed MULH = by_funct7 0b0110011 0b001 0b0000001
+fixed MULHSU = by_funct7 0b0110011 0b010 0b0000001
+fixed MULHU = by_funct7 0b0110011 0b011 0b0000001
+fixed DIV = by_funct7 0b0110011 0b100 0b0000001
+fixed DIVU = by_funct7 0b0110011 0b101 0b0000001
+fixed REM = by_funct7 0b0110011 0b110 0b0000001
+fixed REMU = by_funct7 0b0110011 0b111 0b0000001
 
 -- whether a word with these fields has what a row fixes
-abbrev pub fits : Fixed → ℕ → ℕ → ℕ → ℕ → Bool
-fits (by_opcode o) op f3 f7 rest = op == o
-fits (by_funct3 o f) op f3 f7 rest = (op == o) && (f3 == f)
-fits (by_funct7 o f g) op f3 f7 rest = (op == o) && (f3 == f) && (f7 == g)
-fits (by_word o r) op f3 f7 rest = (op == o) && (rest == r)
+abbrev pub has_fixed : Fixed → ℕ → ℕ → ℕ → ℕ → Bool
+has_fixed (by_opcode o) op f3 f7 rest = op == o
+has_fixed (by_funct3 o f) op f3 f7 rest = (op == o) && (f3 == f)
+has_fixed (by_funct7 o f g) op f3 f7 rest = (op == o) && (f3 == f) && (f7 == g)
+has_fixed (by_word o r) op f3 f7 rest = (op == o) && (rest == r)
 
 abbrev pub rows : List Row
 rows =
@@ -111,11 +127,12 @@ rows =
     ∷ LB ∷ LH ∷ LW ∷ LBU ∷ LHU ∷ SB ∷ SH ∷ SW
     ∷ ADDI ∷ SLTI ∷ SLTIU ∷ XORI ∷ ORI ∷ ANDI ∷ SLLI ∷ SRLI ∷ SRAI
     ∷ ADD ∷ SUB ∷ SLL ∷ SLT ∷ SLTU ∷ XOR ∷ SRL ∷ SRA ∷ OR ∷ AND
-    ∷ FENCE ∷ ECALL ∷ EBREAK ∷ []
+    ∷ FENCE ∷ ECALL ∷ EBREAK
+    ∷ MUL ∷ MULH ∷ MULHSU ∷ MULHU ∷ DIV ∷ DIVU ∷ REM ∷ REMU ∷ []
 
 -- the row that a word with these fields fits
 unfoldable pub listed : ℕ → ℕ → ℕ → ℕ → Option Row
-listed op f3 f7 rest = find (λ row. fits (fixed row) op f3 f7 rest) rows
+listed op f3 f7 rest = find (λ row. has_fixed (fixed row) op f3 f7 rest) rows
 
 -- the row that a word fits, if there is one
 abbrev pub row_of : ℕ → Option Row

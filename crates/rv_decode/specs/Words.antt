@@ -1,8 +1,8 @@
--- The word of each instruction, and what a word's fields say of it.
-use Rattle.std.specs.Prelude.{◌≡◌, ℕ, ◌+◌, ◌*◌, ◌%◌, ◌^◌, ℤ, pos, neg_ℤ, Bool, true, ◌&&◌, ◌==◌, nat_lt, int_le, unsigned_abs, if◌then◌else◌, Option, Some, None}
+-- The word of each instruction, and the instruction of each word.
+use Rattle.std.specs.Prelude.{ℕ, ◌+◌, ◌*◌, ◌%◌, ◌^◌, ℤ, pos, neg_ℤ, Bool, true, ◌&&◌, ◌==◌, nat_lt, int_le, unsigned_abs, if◌then◌else◌, Option, Some, None, option_map}
 use Rattle.std.specs.Int.{w32, cast_unsigned}
 use Rattle.rv_decode.specs.declared.instruction.Instr.{Instr}
-use Rattle.rv_decode.specs.declared.instruction.Instr.TheVariants.{Lui, Auipc, Jal, Jalr, Branch, Load, Store, Imm, Shift, Reg, Fence, Ecall, Ebreak}
+use Rattle.rv_decode.specs.declared.instruction.Instr.TheVariants.{Lui, Auipc, Jal, Jalr, Branch, Load, Store, Imm, Shift, Reg, Mul as Multiply, Fence, Ecall, Ebreak}
 use Rattle.rv_decode.specs.declared.instruction.BranchOp.{BranchOp}
 use Rattle.rv_decode.specs.declared.instruction.BranchOp.TheVariants.{Beq, Bne, Blt, Bge, Bltu, Bgeu}
 use Rattle.rv_decode.specs.declared.instruction.LoadOp.{LoadOp}
@@ -15,8 +15,10 @@ use Rattle.rv_decode.specs.declared.instruction.ShiftOp.{ShiftOp}
 use Rattle.rv_decode.specs.declared.instruction.ShiftOp.TheVariants.{Slli, Srli, Srai}
 use Rattle.rv_decode.specs.declared.instruction.RegOp.{RegOp}
 use Rattle.rv_decode.specs.declared.instruction.RegOp.TheVariants.{Add, Sub, Sll, Slt, Sltu, Xor, Srl, Sra, Or, And}
+use Rattle.rv_decode.specs.declared.instruction.MulOp.{MulOp}
+use Rattle.rv_decode.specs.declared.instruction.MulOp.TheVariants.{Mul, Mulh, Mulhsu, Mulhu, Div, Divu, Rem, Remu}
 use Rattle.rv_decode.specs.Fields.{field, rd, rs1, rs2, upper12, imm_i, imm_s, imm_b, imm_u, imm_j}
-use Rattle.rv_decode.specs.Table.{Row, LUI, AUIPC, JAL, JALR, BEQ, BNE, BLT, BGE, BLTU, BGEU, LB, LH, LW, LBU, LHU, SB, SH, SW, ADDI, SLTI, SLTIU, XORI, ORI, ANDI, SLLI, SRLI, SRAI, ADD, SUB, SLL, SLT, SLTU, XOR, SRL, SRA, OR, AND, FENCE, ECALL, EBREAK, Fixed, by_opcode, by_funct3, by_funct7, by_word, fixed, row_of}
+use Rattle.rv_decode.specs.Table.{Row, LUI, AUIPC, JAL, JALR, BEQ, BNE, BLT, BGE, BLTU, BGEU, LB, LH, LW, LBU, LHU, SB, SH, SW, ADDI, SLTI, SLTIU, XORI, ORI, ANDI, SLLI, SRLI, SRAI, ADD, SUB, SLL, SLT, SLTU, XOR, SRL, SRA, OR, AND, FENCE, ECALL, EBREAK, MUL, MULH, MULHSU, MULHU, DIV, DIVU, REM, REMU, Fixed, by_opcode, by_funct3, by_funct7, by_word, fixed, row_of}
 
 -- ---- the row of each instruction
 
@@ -65,6 +67,16 @@ reg_row Sra = SRA
 reg_row Or = OR
 reg_row And = AND
 
+abbrev pub mul_row : MulOp → Row
+mul_row Mul = MUL
+mul_row Mulh = MULH
+mul_row Mulhsu = MULHSU
+mul_row Mulhu = MULHU
+mul_row Div = DIV
+mul_row Divu = DIVU
+mul_row Rem = REM
+mul_row Remu = REMU
+
 abbrev pub instr_row : Instr → Row
 instr_row (Lui d imm) = LUI
 instr_row (Auipc d imm) = AUIPC
@@ -76,6 +88,7 @@ instr_row (Store op a b imm) = store_row op
 instr_row (Imm op d a imm) = imm_row op
 instr_row (Shift op d a shamt) = shift_row op
 instr_row (Reg op d a b) = reg_row op
+instr_row (Multiply op d a b) = mul_row op
 instr_row (Fence d a imm) = FENCE
 instr_row Ecall = ECALL
 instr_row Ebreak = EBREAK
@@ -105,20 +118,21 @@ abbrev pub is_jump_offset : ℤ → Bool
 is_jump_offset z = is_from (neg_ℤ (pos 1048576)) (pos 1048574) z && is_even z
 
 -- whether each field is in its range
-abbrev pub in_range : Instr → Bool
-in_range (Lui d imm) = is_register d && nat_lt imm (2 ^ 20)
-in_range (Auipc d imm) = is_register d && nat_lt imm (2 ^ 20)
-in_range (Jal d imm) = is_register d && is_jump_offset imm
-in_range (Jalr d a imm) = is_register d && is_register a && is_imm12 imm
-in_range (Branch op a b imm) = is_register a && is_register b && is_branch_offset imm
-in_range (Load op d a imm) = is_register d && is_register a && is_imm12 imm
-in_range (Store op a b imm) = is_register a && is_register b && is_imm12 imm
-in_range (Imm op d a imm) = is_register d && is_register a && is_imm12 imm
-in_range (Shift op d a shamt) = is_register d && is_register a && nat_lt shamt 32
-in_range (Reg op d a b) = is_register d && is_register a && is_register b
-in_range (Fence d a imm) = is_register d && is_register a && nat_lt imm (2 ^ 12)
-in_range Ecall = true
-in_range Ebreak = true
+abbrev pub fields_fit : Instr → Bool
+fields_fit (Lui d imm) = is_register d && nat_lt imm (2 ^ 20)
+fields_fit (Auipc d imm) = is_register d && nat_lt imm (2 ^ 20)
+fields_fit (Jal d imm) = is_register d && is_jump_offset imm
+fields_fit (Jalr d a imm) = is_register d && is_register a && is_imm12 imm
+fields_fit (Branch op a b imm) = is_register a && is_register b && is_branch_offset imm
+fields_fit (Load op d a imm) = is_register d && is_register a && is_imm12 imm
+fields_fit (Store op a b imm) = is_register a && is_register b && is_imm12 imm
+fields_fit (Imm op d a imm) = is_register d && is_register a && is_imm12 imm
+fields_fit (Shift op d a shamt) = is_register d && is_register a && nat_lt shamt 32
+fields_fit (Reg op d a b) = is_register d && is_register a && is_register b
+fields_fit (Multiply op d a b) = is_register d && is_register a && is_register b
+fields_fit (Fence d a imm) = is_register d && is_register a && nat_lt imm (2 ^ 12)
+fields_fit Ecall = true
+fields_fit Ebreak = true
 
 -- what a row fixes, at its place in the word
 abbrev pub fixed_bits : Fixed → ℕ
@@ -163,38 +177,68 @@ operands (Store op a b imm) = s_operands a b (imm_bits imm)
 operands (Imm op d a imm) = i_operands d a (imm_bits imm)
 operands (Shift op d a shamt) = r_operands d a shamt
 operands (Reg op d a b) = r_operands d a b
+operands (Multiply op d a b) = r_operands d a b
 operands (Fence d a imm) = i_operands d a imm
 operands Ecall = 0
 operands Ebreak = 0
 
 -- the word of an instruction, exactly where each field is in its range
 unfoldable pub word_of : Instr → Option ℕ
-word_of instr = if in_range instr then Some (fixed_bits (fixed (instr_row instr)) + operands instr) else None
+word_of instr = if fields_fit instr then Some (fixed_bits (fixed (instr_row instr)) + operands instr) else None
 
 -- ---- from a word to its instruction
 
--- the fields of the word are those of the instruction
-abbrev pub HasFields : ℕ → Instr → Type 0
-HasFields word (Lui d imm) = (d ≡ rd word) × (imm ≡ imm_u word)
-HasFields word (Auipc d imm) = (d ≡ rd word) × (imm ≡ imm_u word)
-HasFields word (Jal d imm) = (d ≡ rd word) × (imm ≡ imm_j word)
-HasFields word (Jalr d a imm) = (d ≡ rd word) × (a ≡ rs1 word) × (imm ≡ imm_i word)
-HasFields word (Branch op a b imm) = (a ≡ rs1 word) × (b ≡ rs2 word) × (imm ≡ imm_b word)
-HasFields word (Load op d a imm) = (d ≡ rd word) × (a ≡ rs1 word) × (imm ≡ imm_i word)
-HasFields word (Store op a b imm) = (a ≡ rs1 word) × (b ≡ rs2 word) × (imm ≡ imm_s word)
-HasFields word (Imm op d a imm) = (d ≡ rd word) × (a ≡ rs1 word) × (imm ≡ imm_i word)
-HasFields word (Shift op d a shamt) = (d ≡ rd word) × (a ≡ rs1 word) × (shamt ≡ rs2 word)
-HasFields word (Reg op d a b) = (d ≡ rd word) × (a ≡ rs1 word) × (b ≡ rs2 word)
-HasFields word (Fence d a imm) = (d ≡ rd word) × (a ≡ rs1 word) × (imm ≡ upper12 word)
-HasFields word Ecall = Unit {0}
-HasFields word Ebreak = Unit {0}
+-- the instruction of a row, with the fields of a word
+abbrev pub instr_in : Row → ℕ → Instr
+instr_in LUI word = Lui (rd word) (imm_u word)
+instr_in AUIPC word = Auipc (rd word) (imm_u word)
+instr_in JAL word = Jal (rd word) (imm_j word)
+instr_in JALR word = Jalr (rd word) (rs1 word) (imm_i word)
+instr_in BEQ word = Branch Beq (rs1 word) (rs2 word) (imm_b word)
+instr_in BNE word = Branch Bne (rs1 word) (rs2 word) (imm_b word)
+instr_in BLT word = Branch Blt (rs1 word) (rs2 word) (imm_b word)
+instr_in BGE word = Branch Bge (rs1 word) (rs2 word) (imm_b word)
+instr_in BLTU word = Branch Bltu (rs1 word) (rs2 word) (imm_b word)
+instr_in BGEU word = Branch Bgeu (rs1 word) (rs2 word) (imm_b word)
+instr_in LB word = Load Lb (rd word) (rs1 word) (imm_i word)
+instr_in LH word = Load Lh (rd word) (rs1 word) (imm_i word)
+instr_in LW word = Load Lw (rd word) (rs1 word) (imm_i word)
+instr_in LBU word = Load Lbu (rd word) (rs1 word) (imm_i word)
+instr_in LHU word = Load Lhu (rd word) (rs1 word) (imm_i word)
+instr_in SB word = Store Sb (rs1 word) (rs2 word) (imm_s word)
+instr_in SH word = Store Sh (rs1 word) (rs2 word) (imm_s word)
+instr_in SW word = Store Sw (rs1 word) (rs2 word) (imm_s word)
+instr_in ADDI word = Imm Addi (rd word) (rs1 word) (imm_i word)
+instr_in SLTI word = Imm Slti (rd word) (rs1 word) (imm_i word)
+instr_in SLTIU word = Imm Sltiu (rd word) (rs1 word) (imm_i word)
+instr_in XORI word = Imm Xori (rd word) (rs1 word) (imm_i word)
+instr_in ORI word = Imm Ori (rd word) (rs1 word) (imm_i word)
+instr_in ANDI word = Imm Andi (rd word) (rs1 word) (imm_i word)
+instr_in SLLI word = Shift Slli (rd word) (rs1 word) (rs2 word)
+instr_in SRLI word = Shift Srli (rd word) (rs1 word) (rs2 word)
+instr_in SRAI word = Shift Srai (rd word) (rs1 word) (rs2 word)
+instr_in ADD word = Reg Add (rd word) (rs1 word) (rs2 word)
+instr_in SUB word = Reg Sub (rd word) (rs1 word) (rs2 word)
+instr_in SLL word = Reg Sll (rd word) (rs1 word) (rs2 word)
+instr_in SLT word = Reg Slt (rd word) (rs1 word) (rs2 word)
+instr_in SLTU word = Reg Sltu (rd word) (rs1 word) (rs2 word)
+instr_in XOR word = Reg Xor (rd word) (rs1 word) (rs2 word)
+instr_in SRL word = Reg Srl (rd word) (rs1 word) (rs2 word)
+instr_in SRA word = Reg Sra (rd word) (rs1 word) (rs2 word)
+instr_in OR word = Reg Or (rd word) (rs1 word) (rs2 word)
+instr_in AND word = Reg And (rd word) (rs1 word) (rs2 word)
+instr_in FENCE word = Fence (rd word) (rs1 word) (upper12 word)
+instr_in ECALL word = Ecall
+instr_in EBREAK word = Ebreak
+instr_in MUL word = Multiply Mul (rd word) (rs1 word) (rs2 word)
+instr_in MULH word = Multiply Mulh (rd word) (rs1 word) (rs2 word)
+instr_in MULHSU word = Multiply Mulhsu (rd word) (rs1 word) (rs2 word)
+instr_in MULHU word = Multiply Mulhu (rd word) (rs1 word) (rs2 word)
+instr_in DIV word = Multiply Div (rd word) (rs1 word) (rs2 word)
+instr_in DIVU word = Multiply Divu (rd word) (rs1 word) (rs2 word)
+instr_in REM word = Multiply Rem (rd word) (rs1 word) (rs2 word)
+instr_in REMU word = Multiply Remu (rd word) (rs1 word) (rs2 word)
 
--- the word's row and its fields are the instruction's
-pub record IsInstruction (word : ℕ) (instr : Instr) : Type 0 where
-  pub row : row_of word ≡ Some (instr_row instr)
-  pub fields : HasFields word instr
-
--- what a decoder has to find: the instruction of the word, or that no row fits the word
-abbrev pub Decodes : ℕ → Option Instr → Type 0
-Decodes word None = row_of word ≡ None
-Decodes word (Some instr) = IsInstruction word instr
+-- the instruction of a word: its row's, with its fields; None where no row fits the word
+unfoldable pub instr_of : ℕ → Option Instr
+instr_of word = option_map (λ row. instr_in row word) (row_of word)

@@ -1,15 +1,15 @@
 // From a word to its instruction: a match on the opcode, then on funct3, then on funct7.
 
-ghost use Rattle.std.specs.Prelude.{◌≡◌, ℕ, ◌%◌, ◌<◌, ◌↔◌, Some, None, IsNone, IfSome, IfNone, option_map};
+ghost use Rattle.std.specs.Prelude.{◌≡◌, ◌≢◌, ℕ, ◌%◌, ◌<◌, ◌↔◌, Some, None, IsNone, IfSome, IfNone, option_map};
 ghost use Rattle.rv_decode.specs.declared.instruction.Instr.{Instr};
 ghost use Rattle.rv_decode.specs.Fields as f;
 ghost use Rattle.rv_decode.specs.Table.{listed, row_of};
-ghost use Rattle.rv_decode.specs.Words.{branch_row, load_row, store_row, imm_row, shift_row, reg_row, word_of, IsInstruction, Decodes};
+ghost use Rattle.rv_decode.specs.Words.{branch_row, load_row, store_row, imm_row, shift_row, reg_row, mul_row, word_of, instr_of};
 
 use crate::fields::{
     funct3, funct7, imm_b, imm_i, imm_j, imm_s, imm_u, opcode, rd, rest, rs1, rs2, upper12,
 };
-use crate::instruction::{BranchOp, ImmOp, Instr, LoadOp, RegOp, ShiftOp, StoreOp};
+use crate::instruction::{BranchOp, ImmOp, Instr, LoadOp, MulOp, RegOp, ShiftOp, StoreOp};
 
 #[tactic(auto, unfolding(crate::specs::Table::listed))]
 fn branch_op(funct3: u32) -> Option<BranchOp>
@@ -116,7 +116,8 @@ fn reg_op_of_funct7_32(funct3: u32) -> Option<RegOp>
 
 #[tactic(auto, unfolding(crate::specs::Table::listed))]
 fn reg_op(funct3: u32, funct7: u32) -> Option<RegOp>
-    ensures { option_map reg_row result ≡ listed 0b0110011 funct3 funct7 0 }
+    ensures found { IfSome result (λ op. listed 0b0110011 funct3 funct7 0 ≡ Some (reg_row op)) }
+    ensures none { IfNone result (funct7 ≢ 0b0000001 → listed 0b0110011 funct3 funct7 0 ≡ None) }
 {
     match funct7 {
         0b000_0000 => reg_op_of_funct7_0(funct3),
@@ -125,10 +126,28 @@ fn reg_op(funct3: u32, funct7: u32) -> Option<RegOp>
     }
 }
 
+// The operations of the M extension, whose funct7 is 0000001.
+#[tactic(auto, unfolding(crate::specs::Table::listed))]
+fn mul_op(funct3: u32) -> Option<MulOp>
+    ensures { option_map mul_row result ≡ listed 0b0110011 funct3 0b0000001 0 }
+{
+    match funct3 {
+        0b000 => Some(MulOp::Mul),
+        0b001 => Some(MulOp::Mulh),
+        0b010 => Some(MulOp::Mulhsu),
+        0b011 => Some(MulOp::Mulhu),
+        0b100 => Some(MulOp::Div),
+        0b101 => Some(MulOp::Divu),
+        0b110 => Some(MulOp::Rem),
+        0b111 => Some(MulOp::Remu),
+        _ => None,
+    }
+}
+
 #[tactic(auto, using(crate::proofs::Rows::jalr_rows))]
 fn jalr(word: u32) -> Option<Instr>
     requires { f.opcode word ≡ 0b1100111 }
-    ensures { Decodes word result }
+    ensures { result ≡ instr_of word }
 {
     match funct3(word) {
         0b000 => Some(Instr::Jalr {
@@ -140,10 +159,10 @@ fn jalr(word: u32) -> Option<Instr>
     }
 }
 
-#[tactic(auto, using(crate::proofs::Rows::of_branch))]
+#[tactic(auto, using(crate::proofs::Rows::of_branch, crate::proofs::Rows::branch_at, crate::proofs::Rows::at_none))]
 fn branch(word: u32) -> Option<Instr>
     requires { f.opcode word ≡ 0b1100011 }
-    ensures { Decodes word result }
+    ensures { result ≡ instr_of word }
 {
     let Some(op) = branch_op(funct3(word)) else {
         return None;
@@ -156,10 +175,10 @@ fn branch(word: u32) -> Option<Instr>
     })
 }
 
-#[tactic(auto, using(crate::proofs::Rows::of_load))]
+#[tactic(auto, using(crate::proofs::Rows::of_load, crate::proofs::Rows::load_at, crate::proofs::Rows::at_none))]
 fn load(word: u32) -> Option<Instr>
     requires { f.opcode word ≡ 0b0000011 }
-    ensures { Decodes word result }
+    ensures { result ≡ instr_of word }
 {
     let Some(op) = load_op(funct3(word)) else {
         return None;
@@ -172,10 +191,10 @@ fn load(word: u32) -> Option<Instr>
     })
 }
 
-#[tactic(auto, using(crate::proofs::Rows::of_store))]
+#[tactic(auto, using(crate::proofs::Rows::of_store, crate::proofs::Rows::store_at, crate::proofs::Rows::at_none))]
 fn store(word: u32) -> Option<Instr>
     requires { f.opcode word ≡ 0b0100011 }
-    ensures { Decodes word result }
+    ensures { result ≡ instr_of word }
 {
     let Some(op) = store_op(funct3(word)) else {
         return None;
@@ -188,11 +207,11 @@ fn store(word: u32) -> Option<Instr>
     })
 }
 
-#[tactic(auto, using(crate::proofs::Rows::of_immediate))]
+#[tactic(auto, using(crate::proofs::Rows::of_immediate, crate::proofs::Rows::shift_at, crate::proofs::Rows::at_none))]
 fn shift(word: u32) -> Option<Instr>
     requires opcode { f.opcode word ≡ 0b0010011 }
     requires shift { f.funct3 word % 4 ≡ 1 }
-    ensures { Decodes word result }
+    ensures { result ≡ instr_of word }
 {
     let Some(op) = shift_op(funct3(word), funct7(word)) else {
         return None;
@@ -205,10 +224,10 @@ fn shift(word: u32) -> Option<Instr>
     })
 }
 
-#[tactic(auto, using(crate::proofs::Rows::of_immediate))]
+#[tactic(auto, using(crate::proofs::Rows::of_immediate, crate::proofs::Rows::imm_at, crate::proofs::Rows::at_none))]
 fn immediate(word: u32) -> Option<Instr>
     requires { f.opcode word ≡ 0b0010011 }
-    ensures { Decodes word result }
+    ensures { result ≡ instr_of word }
 {
     let Some(op) = imm_op(funct3(word)) else {
         return shift(word);
@@ -221,13 +240,33 @@ fn immediate(word: u32) -> Option<Instr>
     })
 }
 
-#[tactic(auto, using(crate::proofs::Rows::of_register))]
+#[tactic(auto, using(crate::proofs::Rows::of_register, crate::proofs::Rows::mul_at, crate::proofs::Rows::at_none))]
+fn multiply(word: u32) -> Option<Instr>
+    requires opcode { f.opcode word ≡ 0b0110011 }
+    requires others { f.funct7 word ≢ 0b0000001 → row_of word ≡ None }
+    ensures { result ≡ instr_of word }
+{
+    if funct7(word) != 0b000_0001 {
+        return None;
+    }
+    let Some(op) = mul_op(funct3(word)) else {
+        return None;
+    };
+    Some(Instr::Mul {
+        op,
+        rd: rd(word),
+        rs1: rs1(word),
+        rs2: rs2(word),
+    })
+}
+
+#[tactic(auto, using(crate::proofs::Rows::of_register, crate::proofs::Rows::reg_at, crate::proofs::Rows::at_none))]
 fn register(word: u32) -> Option<Instr>
     requires { f.opcode word ≡ 0b0110011 }
-    ensures { Decodes word result }
+    ensures { result ≡ instr_of word }
 {
     let Some(op) = reg_op(funct3(word), funct7(word)) else {
-        return None;
+        return multiply(word);
     };
     Some(Instr::Reg {
         op,
@@ -240,7 +279,7 @@ fn register(word: u32) -> Option<Instr>
 #[tactic(auto, using(crate::proofs::Rows::fence_rows))]
 fn fence(word: u32) -> Option<Instr>
     requires { f.opcode word ≡ 0b0001111 }
-    ensures { Decodes word result }
+    ensures { result ≡ instr_of word }
 {
     match funct3(word) {
         0b000 => Some(Instr::Fence {
@@ -255,7 +294,7 @@ fn fence(word: u32) -> Option<Instr>
 #[tactic(auto, using(crate::proofs::Rows::system_rows))]
 fn system(word: u32) -> Option<Instr>
     requires { f.opcode word ≡ 0b1110011 }
-    ensures { Decodes word result }
+    ensures { result ≡ instr_of word }
 {
     match rest(word) {
         0 => Some(Instr::Ecall),
@@ -264,9 +303,9 @@ fn system(word: u32) -> Option<Instr>
     }
 }
 
-#[tactic(auto, using(crate::proofs::Rows::of_lui, crate::proofs::Rows::of_auipc, crate::proofs::Rows::of_jal, crate::proofs::Rows::of_other,))]
+#[tactic(auto, using(crate::proofs::Rows::of_lui, crate::proofs::Rows::of_auipc, crate::proofs::Rows::of_jal, crate::proofs::Rows::no_instr))]
 fn decoded(word: u32) -> Option<Instr>
-    ensures { Decodes word result }
+    ensures { result ≡ instr_of word }
 {
     match opcode(word) {
         0b0110111 => Some(Instr::Lui {
@@ -293,13 +332,12 @@ fn decoded(word: u32) -> Option<Instr>
     }
 }
 
-/// The instruction of a word of 32 bits, or `None` where no row of the manual's listing of RV32I fits the word
+/// The instruction of a word of 32 bits, or `None` where no row of the manual's listing of RV32IM fits the word
 /// (RISC-V Unprivileged ISA, "RV32/64G Instruction Set Listings").
 pub fn decode(word: u32) -> Option<Instr>
+    ensures value { result ≡ instr_of word }
     // What is found has this word.
     ensures found { IfSome result (λ instr. word_of instr ≡ Some word) }
-    // Its row and its fields are the word's.
-    ensures fields { IfSome result (λ instr. IsInstruction word instr) }
     // An instruction that has this word is found.
     ensures only { (instr : Instr) → word_of instr ≡ Some word → result ≡ Some instr }
     // Nothing is found exactly where no row fits the word.

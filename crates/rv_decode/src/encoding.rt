@@ -3,9 +3,9 @@
 ghost use Rattle.std.specs.Prelude.{◌≡◌, ◌+◌, ◌<◌, ◌≤◌, ◌^◌, ◌&&◌, nat_lt, if◌then◌else◌, Some, None};
 ghost use Rattle.rv_decode.specs.Table.{fixed};
 ghost use Rattle.rv_decode.specs.Words as w;
-ghost use Rattle.rv_decode.specs.Words.{fixed_bits, imm_bits, branch_row, load_row, store_row, imm_row, shift_row, reg_row, r_operands, i_operands, s_operands, b_operands, u_operands, j_operands, word_of};
+ghost use Rattle.rv_decode.specs.Words.{fixed_bits, imm_bits, branch_row, load_row, store_row, imm_row, shift_row, reg_row, mul_row, r_operands, i_operands, s_operands, b_operands, u_operands, j_operands, word_of};
 
-use crate::instruction::{BranchOp, ImmOp, Instr, LoadOp, RegOp, ShiftOp, StoreOp};
+use crate::instruction::{BranchOp, ImmOp, Instr, LoadOp, MulOp, RegOp, ShiftOp, StoreOp};
 
 // What the rows of the operations fix: the opcode, funct3 at bit 12 and funct7 at bit 25.
 
@@ -87,6 +87,22 @@ fn reg_bits(op: RegOp) -> u32
         RegOp::Sra => 0x4000_5033,
         RegOp::Or => 0x0000_6033,
         RegOp::And => 0x0000_7033,
+    }
+}
+
+fn mul_bits(op: MulOp) -> u32
+    ensures bits { result ≡ fixed_bits (fixed (mul_row op)) }
+    ensures small { result < 2 ^ 31 }
+{
+    match op {
+        MulOp::Mul => 0x0200_0033,
+        MulOp::Mulh => 0x0200_1033,
+        MulOp::Mulhsu => 0x0200_2033,
+        MulOp::Mulhu => 0x0200_3033,
+        MulOp::Div => 0x0200_4033,
+        MulOp::Divu => 0x0200_5033,
+        MulOp::Rem => 0x0200_6033,
+        MulOp::Remu => 0x0200_7033,
     }
 }
 
@@ -205,7 +221,7 @@ fn fence_word(rd: u32, rs1: u32, imm: u32) -> Option<u32>
 }
 
 /// The word of an instruction, or `None` where a field isn't in its range (`Instr` has the ranges;
-/// RISC-V Unprivileged ISA, chapter RV32I).
+/// RISC-V Unprivileged ISA, "RV32/64G Instruction Set Listings").
 #[tactic(auto, unfolding(crate::specs::Words::word_of))]
 pub fn encode(instr: &Instr) -> Option<u32>
     ensures { result ≡ word_of instr.now }
@@ -221,6 +237,7 @@ pub fn encode(instr: &Instr) -> Option<u32>
         Instr::Imm { op, rd, rs1, imm } => i_word(imm_op_bits(op), rd, rs1, imm),
         Instr::Shift { op, rd, rs1, shamt } => r_word(shift_bits(op), rd, rs1, shamt),
         Instr::Reg { op, rd, rs1, rs2 } => r_word(reg_bits(op), rd, rs1, rs2),
+        Instr::Mul { op, rd, rs1, rs2 } => r_word(mul_bits(op), rd, rs1, rs2),
         Instr::Fence { rd, rs1, imm } => fence_word(rd, rs1, imm),
         Instr::Ecall => Some(0x0000_0073),
         Instr::Ebreak => Some(0x0010_0073),

@@ -1,4 +1,4 @@
-// The instructions of RV32I, one variant for each shape of operands.
+// The instructions of RV32IM, one variant for each shape of operands.
 
 /// The conditional branches (RV32I, "Conditional Branches").
 #[derive(Clone, Copy, Debug, PartialEq, Eq)]
@@ -64,7 +64,21 @@ pub enum RegOp {
     And,
 }
 
-/// An instruction of RV32I.
+/// The multiplications, quotients and remainders of two registers ("M" Standard Extension for Integer
+/// Multiplication and Division).
+#[derive(Clone, Copy, Debug, PartialEq, Eq)]
+pub enum MulOp {
+    Mul,
+    Mulh,
+    Mulhsu,
+    Mulhu,
+    Div,
+    Divu,
+    Rem,
+    Remu,
+}
+
+/// An instruction of RV32IM.
 ///
 /// It has a word exactly where each field is in its range: a register `rd`, `rs1`, `rs2` and a `shamt` is below
 /// 32; the `imm` of `Lui` and `Auipc` is the field of 20 bits, below 2^20; that of `Jalr`, `Load`, `Store` and
@@ -121,6 +135,12 @@ pub enum Instr {
     },
     Reg {
         op: RegOp,
+        rd: u32,
+        rs1: u32,
+        rs2: u32,
+    },
+    Mul {
+        op: MulOp,
         rd: u32,
         rs1: u32,
         rs2: u32,

@@ -1,215 +1,159 @@
-use super::BranchOp::{Beq, Bge, Bgeu, Blt, Bltu, Bne};
-use super::ImmOp::{Addi, Andi, Ori, Slti, Sltiu, Xori};
-use super::LoadOp::{Lb, Lbu, Lh, Lhu, Lw};
-use super::RegOp::{Add, And, Or, Sll, Slt, Sltu, Sra, Srl, Sub, Xor};
-use super::ShiftOp::{Slli, Srai, Srli};
-use super::StoreOp::{Sb, Sh, Sw};
 use super::*;
 
-// Instructions in the order of their fields, so that a row of a table is one line.
+// Words as an assembler for RV32IM writes them, by the encodings of the RISC-V Unprivileged ISA manual, and their
+// instructions.
+const WORDS: &str = "\
+123450b7 Lui { rd: 1, imm: 74565 }\n\
+ffffffb7 Lui { rd: 31, imm: 1048575 }\n\
+00000037 Lui { rd: 0, imm: 0 }\n\
+80000297 Auipc { rd: 5, imm: 524288 }\n\
+001000ef Jal { rd: 1, imm: 2048 }\n\
+8000006f Jal { rd: 0, imm: -1048576 }\n\
+7fffffef Jal { rd: 31, imm: 1048574 }\n\
+fffff06f Jal { rd: 0, imm: -2 }\n\
+5545536f Jal { rd: 6, imm: 349524 }\n\
+001100e7 Jalr { rd: 1, rs1: 2, imm: 1 }\n\
+00008067 Jalr { rd: 0, rs1: 1, imm: 0 }\n\
+800f0fe7 Jalr { rd: 31, rs1: 30, imm: -2048 }\n\
+00208463 Branch { op: Beq, rs1: 1, rs2: 2, imm: 8 }\n\
+fe019ee3 Branch { op: Bne, rs1: 3, rs2: 0, imm: -4 }\n\
+7fefcfe3 Branch { op: Blt, rs1: 31, rs2: 30, imm: 4094 }\n\
+80525063 Branch { op: Bge, rs1: 4, rs2: 5, imm: -4096 }\n\
+007360e3 Branch { op: Bltu, rs1: 6, rs2: 7, imm: 2048 }\n\
+fff47f63 Branch { op: Bgeu, rs1: 8, rs2: 31, imm: -2050 }\n\
+7ff10083 Load { op: Lb, rd: 1, rs1: 2, imm: 2047 }\n\
+800f9183 Load { op: Lh, rd: 3, rs1: 31, imm: -2048 }\n\
+00042f83 Load { op: Lw, rd: 31, rs1: 8, imm: 0 }\n\
+fff54483 Load { op: Lbu, rd: 9, rs1: 10, imm: -1 }\n\
+00465583 Load { op: Lhu, rd: 11, rs1: 12, imm: 4 }\n\
+7e110fa3 Store { op: Sb, rs1: 2, rs2: 1, imm: 2047 }\n\
+81ff1023 Store { op: Sh, rs1: 30, rs2: 31, imm: -2048 }\n\
+fed720a3 Store { op: Sw, rs1: 14, rs2: 13, imm: -31 }\n\
+05d00893 Imm { op: Addi, rd: 17, rs1: 0, imm: 93 }\n\
+80012093 Imm { op: Slti, rd: 1, rs1: 2, imm: -2048 }\n\
+7fff3f93 Imm { op: Sltiu, rd: 31, rs1: 30, imm: 2047 }\n\
+fff2c293 Imm { op: Xori, rd: 5, rs1: 5, imm: -1 }\n\
+5553e313 Imm { op: Ori, rd: 6, rs1: 7, imm: 1365 }\n\
+aaa4f413 Imm { op: Andi, rd: 8, rs1: 9, imm: -1366 }\n\
+00000013 Imm { op: Addi, rd: 0, rs1: 0, imm: 0 }\n\
+01f11093 Shift { op: Slli, rd: 1, rs1: 2, shamt: 31 }\n\
+001f5f93 Shift { op: Srli, rd: 31, rs1: 30, shamt: 1 }\n\
+41f25193 Shift { op: Srai, rd: 3, rs1: 4, shamt: 31 }\n\
+40025193 Shift { op: Srai, rd: 3, rs1: 4, shamt: 0 }\n\
+003100b3 Reg { op: Add, rd: 1, rs1: 2, rs2: 3 }\n\
+41df0fb3 Reg { op: Sub, rd: 31, rs1: 30, rs2: 29 }\n\
+00629233 Reg { op: Sll, rd: 4, rs1: 5, rs2: 6 }\n\
+009423b3 Reg { op: Slt, rd: 7, rs1: 8, rs2: 9 }\n\
+00c5b533 Reg { op: Sltu, rd: 10, rs1: 11, rs2: 12 }\n\
+00f746b3 Reg { op: Xor, rd: 13, rs1: 14, rs2: 15 }\n\
+0128d833 Reg { op: Srl, rd: 16, rs1: 17, rs2: 18 }\n\
+415a59b3 Reg { op: Sra, rd: 19, rs1: 20, rs2: 21 }\n\
+018beb33 Reg { op: Or, rd: 22, rs1: 23, rs2: 24 }\n\
+01fd7cb3 Reg { op: And, rd: 25, rs1: 26, rs2: 31 }\n\
+0ff0000f Fence { rd: 0, rs1: 0, imm: 255 }\n\
+0310000f Fence { rd: 0, rs1: 0, imm: 49 }\n\
+8330000f Fence { rd: 0, rs1: 0, imm: 2099 }\n\
+00000073 Ecall\n\
+00100073 Ebreak\n\
+abcf8f8f Fence { rd: 31, rs1: 31, imm: 2748 }\n\
+022081b3 Mul { op: Mul, rd: 3, rs1: 1, rs2: 2 }\n\
+03df1fb3 Mul { op: Mulh, rd: 31, rs1: 30, rs2: 29 }\n\
+02ffa0b3 Mul { op: Mulhsu, rd: 1, rs1: 31, rs2: 15 }\n\
+03f03833 Mul { op: Mulhu, rd: 16, rs1: 0, rs2: 31 }\n\
+0220c1b3 Mul { op: Div, rd: 3, rs1: 1, rs2: 2 }\n\
+02005033 Mul { op: Divu, rd: 0, rs1: 0, rs2: 0 }\n\
+0220e1b3 Mul { op: Rem, rd: 3, rs1: 1, rs2: 2 }\n\
+03ffffb3 Mul { op: Remu, rd: 31, rs1: 31, rs2: 31 }";
 
-fn lui(rd: u32, imm: u32) -> Instr {
-    Instr::Lui { rd, imm }
-}
-
-fn auipc(rd: u32, imm: u32) -> Instr {
-    Instr::Auipc { rd, imm }
-}
-
-fn jal(rd: u32, imm: i32) -> Instr {
-    Instr::Jal { rd, imm }
-}
-
-fn jalr(rd: u32, rs1: u32, imm: i32) -> Instr {
-    Instr::Jalr { rd, rs1, imm }
-}
-
-fn branch(op: BranchOp, rs1: u32, rs2: u32, imm: i32) -> Instr {
-    Instr::Branch { op, rs1, rs2, imm }
-}
-
-fn load(op: LoadOp, rd: u32, rs1: u32, imm: i32) -> Instr {
-    Instr::Load { op, rd, rs1, imm }
-}
-
-fn store(op: StoreOp, rs1: u32, rs2: u32, imm: i32) -> Instr {
-    Instr::Store { op, rs1, rs2, imm }
-}
-
-fn immediate(op: ImmOp, rd: u32, rs1: u32, imm: i32) -> Instr {
-    Instr::Imm { op, rd, rs1, imm }
-}
-
-fn shift(op: ShiftOp, rd: u32, rs1: u32, shamt: u32) -> Instr {
-    Instr::Shift { op, rd, rs1, shamt }
-}
-
-fn register(op: RegOp, rd: u32, rs1: u32, rs2: u32) -> Instr {
-    Instr::Reg { op, rd, rs1, rs2 }
-}
-
-fn fence(rd: u32, rs1: u32, imm: u32) -> Instr {
-    Instr::Fence { rd, rs1, imm }
-}
-
-// Words as an assembler for RV32I writes them, by the encodings of the RISC-V Unprivileged ISA manual.
 #[test]
 fn words_and_instructions(rt: HostRuntime) {
-    for (word, instr) in [
-        (0x1234_50b7, lui(1, 0x12345)),
-        (0xffff_ffb7, lui(31, 0xfffff)),
-        (0x0000_0037, lui(0, 0)),
-        (0x8000_0297, auipc(5, 0x80000)),
-        (0x0010_00ef, jal(1, 2048)),
-        (0x8000_006f, jal(0, -1048576)),
-        (0x7fff_ffef, jal(31, 1048574)),
-        (0xffff_f06f, jal(0, -2)),
-        (0x5545_536f, jal(6, 0x55554)),
-        (0x0011_00e7, jalr(1, 2, 1)),
-        (0x0000_8067, jalr(0, 1, 0)),
-        (0x800f_0fe7, jalr(31, 30, -2048)),
-        (0x0020_8463, branch(Beq, 1, 2, 8)),
-        (0xfe01_9ee3, branch(Bne, 3, 0, -4)),
-        (0x7fef_cfe3, branch(Blt, 31, 30, 4094)),
-        (0x8052_5063, branch(Bge, 4, 5, -4096)),
-        (0x0073_60e3, branch(Bltu, 6, 7, 2048)),
-        (0xfff4_7f63, branch(Bgeu, 8, 31, -2050)),
-        (0x7ff1_0083, load(Lb, 1, 2, 2047)),
-        (0x800f_9183, load(Lh, 3, 31, -2048)),
-        (0x0004_2f83, load(Lw, 31, 8, 0)),
-        (0xfff5_4483, load(Lbu, 9, 10, -1)),
-        (0x0046_5583, load(Lhu, 11, 12, 4)),
-        (0x7e11_0fa3, store(Sb, 2, 1, 2047)),
-        (0x81ff_1023, store(Sh, 30, 31, -2048)),
-        (0xfed7_20a3, store(Sw, 14, 13, -31)),
-        (0x05d0_0893, immediate(Addi, 17, 0, 93)),
-        (0x8001_2093, immediate(Slti, 1, 2, -2048)),
-        (0x7fff_3f93, immediate(Sltiu, 31, 30, 2047)),
-        (0xfff2_c293, immediate(Xori, 5, 5, -1)),
-        (0x5553_e313, immediate(Ori, 6, 7, 1365)),
-        (0xaaa4_f413, immediate(Andi, 8, 9, -1366)),
-        (0x0000_0013, immediate(Addi, 0, 0, 0)),
-        (0x01f1_1093, shift(Slli, 1, 2, 31)),
-        (0x001f_5f93, shift(Srli, 31, 30, 1)),
-        (0x41f2_5193, shift(Srai, 3, 4, 31)),
-        (0x4002_5193, shift(Srai, 3, 4, 0)),
-        (0x0031_00b3, register(Add, 1, 2, 3)),
-        (0x41df_0fb3, register(Sub, 31, 30, 29)),
-        (0x0062_9233, register(Sll, 4, 5, 6)),
-        (0x0094_23b3, register(Slt, 7, 8, 9)),
-        (0x00c5_b533, register(Sltu, 10, 11, 12)),
-        (0x00f7_46b3, register(Xor, 13, 14, 15)),
-        (0x0128_d833, register(Srl, 16, 17, 18)),
-        (0x415a_59b3, register(Sra, 19, 20, 21)),
-        (0x018b_eb33, register(Or, 22, 23, 24)),
-        (0x01fd_7cb3, register(And, 25, 26, 31)),
-        (0x0ff0_000f, fence(0, 0, 0x0ff)),
-        (0x0310_000f, fence(0, 0, 0x031)),
-        (0x8330_000f, fence(0, 0, 0x833)),
-        (0x0000_0073, Instr::Ecall),
-        (0x0010_0073, Instr::Ebreak),
-        (0xabcf_8f8f, fence(31, 31, 0xabc)),
-    ] {
-        assert_eq!(rt; decode(word), Some(instr), "decoding {word:08x}");
-        assert_eq!(rt; encode(&instr), Some(word), "encoding {instr:?}");
+    for row in WORDS.split('\n') {
+        let (word, shown) = row.split_once(' ').expect(&rt, "no row");
+        let word = u32::from_str_radix(word, 16).expect(&rt, "no word");
+        let instr = decode(word).expect(&rt, "no instruction");
+        let text = format!(in rt.alloc(); "{instr:?}").expect(&rt, "no memory");
+        assert_eq!(rt; text.as_str(), shown, "decoding {word:08x}");
+        assert_eq!(rt; encode(&instr), Some(word), "encoding {shown}");
     }
 }
 
+// All zeros and all ones; JALR, branches, loads and stores with a funct3 of no row; shifts by a constant with a funct7 of
+// no row, that of M among them; register operations with a funct7 of no row; funct7 of M with other opcodes; FENCE.I and
+// what else has FENCE's opcode; MRET, WFI, CSRRW and other words of SYSTEM than ECALL and EBREAK; compressed words, and
+// opcodes of other extensions or of none.
+const WORDS_OF_NO_ROW: &str = "00000000 ffffffff \
+00001067 00007067 00002063 00003063 00003003 00006003 00007003 00003023 00007023 \
+02001013 40001013 02005013 60005013 \
+40001033 40007033 20000033 80000033 42000033 60005033 06000033 04004033 \
+0200003b 0200202f 02000053 0200000b \
+0000100f 0000200f 0000700f \
+30200073 10500073 00001073 30001073 00200073 000000f3 00008073 00100173 02000073 \
+00000001 00000002 00004501 00008082 0000000b 0000001b 0000003b 0000002f 00000007 00000053 0000007f 00000057 \
+00000030 00000072 fffffff2";
+
 #[test]
 fn words_of_no_row(rt: HostRuntime) {
-    for word in [
-        // All zeros and all ones.
-        0x0000_0000,
-        0xffff_ffff,
-        // JALR, branches, loads and stores with a funct3 of no row.
-        0x0000_1067,
-        0x0000_7067,
-        0x0000_2063,
-        0x0000_3063,
-        0x0000_3003,
-        0x0000_6003,
-        0x0000_7003,
-        0x0000_3023,
-        0x0000_7023,
-        // Shifts by a constant with a funct7 of no row.
-        0x0200_1013,
-        0x4000_1013,
-        0x0200_5013,
-        0x6000_5013,
-        // Register operations with a funct7 of no row, the multiplications among them.
-        0x4000_1033,
-        0x4000_7033,
-        0x0200_0033,
-        0x0200_4033,
-        0x2000_0033,
-        0x8000_0033,
-        0x4200_0033,
-        0x6000_5033,
-        // FENCE.I and what else has FENCE's opcode.
-        0x0000_100f,
-        0x0000_200f,
-        0x0000_700f,
-        // MRET, WFI, CSRRW and other words of SYSTEM than ECALL and EBREAK.
-        0x3020_0073,
-        0x1050_0073,
-        0x0000_1073,
-        0x3000_1073,
-        0x0020_0073,
-        0x0000_00f3,
-        0x0000_8073,
-        0x0010_0173,
-        // Compressed words, and opcodes of other extensions or of none.
-        0x0000_0001,
-        0x0000_0002,
-        0x0000_4501,
-        0x0000_8082,
-        0x0000_000b,
-        0x0000_001b,
-        0x0000_003b,
-        0x0000_002f,
-        0x0000_0007,
-        0x0000_0053,
-        0x0000_007f,
-        0x0000_0057,
-        0x0000_0030,
-        0x0000_0072,
-        0xffff_fff2,
-    ] {
-        assert_eq!(rt; decode(word), None, "decoding {word:08x}");
+    for text in WORDS_OF_NO_ROW.split(' ') {
+        let word = u32::from_str_radix(text, 16).expect(&rt, "no word");
+        assert_eq!(rt; decode(word), None, "decoding {text}");
     }
 }
 
 #[test]
 fn fields_out_of_range(rt: HostRuntime) {
+    let (rd, rs1, rs2) = (0, 0, 32);
     for instr in [
-        lui(32, 0),
-        lui(0, 0x10_0000),
-        auipc(u32::MAX, 0),
-        auipc(0, 0x10_0000),
-        jal(32, 0),
-        jal(0, 1),
-        jal(0, -1),
-        jal(0, 1048576),
-        jal(0, -1048578),
-        jalr(32, 0, 0),
-        jalr(0, 32, 0),
-        jalr(0, 0, 2048),
-        branch(Beq, 32, 0, 0),
-        branch(Beq, 0, 32, 0),
-        branch(Beq, 0, 0, 3),
-        branch(Beq, 0, 0, -3),
-        branch(Beq, 0, 0, 4096),
-        branch(Beq, 0, 0, -4098),
-        load(Lw, 32, 0, 0),
-        load(Lw, 0, 0, -2049),
-        store(Sw, 0, 32, 0),
-        store(Sw, 0, 0, 2048),
-        immediate(Addi, 0, 32, 0),
-        immediate(Addi, 0, 0, i32::MIN),
-        shift(Slli, 0, 0, 32),
-        register(Add, 0, 0, 32),
-        fence(0, 0, 0x1000),
-        fence(32, 0, 0),
+        Instr::Lui { rd: 32, imm: 0 },
+        Instr::Auipc { rd, imm: 0x10_0000 },
+        Instr::Jal { rd, imm: 1048576 },
+        Instr::Jal { rd, imm: -1 },
+        Instr::Branch {
+            op: BranchOp::Beq,
+            rs1,
+            rs2: 0,
+            imm: -4098,
+        },
+        Instr::Branch {
+            op: BranchOp::Beq,
+            rs1,
+            rs2: 0,
+            imm: 3,
+        },
+        Instr::Load {
+            op: LoadOp::Lw,
+            rd,
+            rs1,
+            imm: -2049,
+        },
+        Instr::Store {
+            op: StoreOp::Sw,
+            rs1,
+            rs2: 0,
+            imm: 2048,
+        },
+        Instr::Shift {
+            op: ShiftOp::Slli,
+            rd,
+            rs1,
+            shamt: 32,
+        },
+        Instr::Reg {
+            op: RegOp::Add,
+            rd,
+            rs1,
+            rs2,
+        },
+        Instr::Mul {
+            op: MulOp::Remu,
+            rd,
+            rs1,
+            rs2,
+        },
+        Instr::Fence {
+            rd,
+            rs1,
+            imm: 0x1000,
+        },
     ] {
         assert_eq!(rt; encode(&instr), None, "encoding {instr:?}");
     }

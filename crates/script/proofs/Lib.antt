@@ -11,3 +11,4 @@ pub mod CoreSteps
 pub mod Midways
 pub mod Runs
 pub mod WentOn
+pub mod Pairs

@@ -1,5 +1,6 @@
 -- A script that has been run so far: what is printed already, and what is left to print, are what it prints.
-use Rattle.std.proofs.Common.{◌≡◌, ◌⊎◌, inl, inr, ℕ, ◌+◌, ◌<◌, true, false, drop, get_or, add-one, drop-cons, List, [], ◌∷◌, ◌++◌, length, refl, sym, ◌∙◌, ap, append_assoc}
+use Rattle.std.proofs.Common.{◌≡◌, ℕ, ◌+◌, ◌<◌, true, false, drop, get_or, add-one, drop-cons, List, [], ◌∷◌, ◌++◌, length, refl, sym, ◌∙◌, ap, subst, append_assoc, append-nil}
+use Rattle.std.proofs.lemmas.Bool.{false≢true}
 use Rattle.std.specs.Prelude.{IsTrue}
 use Rattle.history.specs.declared.events.Entry.{Entry}
 use Rattle.history.specs.Layout.{Setting}
@@ -18,9 +19,9 @@ use Rattle.script.specs.Measuring.{measured_with, may_come}
 use Rattle.script.specs.Attested.{MayComeAll}
 use Rattle.script.specs.Printed.{line, step_printed, steps_printed, nonce_with}
 use Rattle.script.specs.Tagging.{IsTagging}
-use Rattle.script.specs.declared.running.Went.{Went}
-use Rattle.script.specs.declared.running.Went.TheVariants.{Made, Waited, Full}
-use Rattle.script.specs.Running.{past_of, HasMade, HasWaited, HasStopped, HasGone, IsTaggedBy}
+use Rattle.script.specs.declared.running.StepEnd.{StepEnd}
+use Rattle.script.specs.declared.running.StepEnd.TheVariants.{Made, Waits, Full}
+use Rattle.script.specs.Running.{past_of, StepMade, StepWaits, StepFull, StepRan, IsTaggedBy, end_text, is_end_full}
 use Rattle.script.proofs.Legals.{IsLinked, step_linked, waiting_linked, same_order, same_block}
 use Rattle.script.proofs.CoreSteps.{past_more}
 
@@ -62,8 +63,8 @@ midway-none w key steps start core t world empty ordered tagging = record {
 
 -- after a step that made its entry
 pub midway-made : (w : Setting) (key : List ℕ) (steps : List Step) (start : List ℕ) (step : Step) (rest : List Step) (old new : Core) (before after : List ℕ) (t u : Tagger)
-    → (m : Midway w key steps start (step ∷ rest) old before t) → HasMade key m.nonce old new step before after
-    → IsTagging w key (nonce_with m.nonce step) (past_of new) u
+    → (m : Midway w key steps start (step ∷ rest) old before t) → StepMade key m.nonce old new step before after
+    → IsTagging w key (nonce_with m.nonce step) (entry_of w (past_of old) step ∷ past_of old) u
     → Midway w key steps start rest new after u
 midway-made w key steps start step rest old new before after t u m made tagging =
     let room : is_full w (past_of old) ≡ false = rw m.world at made.room in
@@ -77,16 +78,16 @@ midway-made w key steps start step rest old new before after t u m made tagging 
       ordered = m.ordered.1;
       full = rw longer (rw (room, free) at m.full);
       nonce = nonce_with m.nonce step;
-      tagging = tagging;
+      tagging = rw longer tagging;
       whole = rw (longer, said) (append_assoc before (step_printed w key m.nonce (past_of old) step) _ ∙ (rw (room, free) at m.whole));
     }
 
 -- after a store that waits
-pub midway-waited : (w : Setting) (key : List ℕ) (steps : List Step) (start : List ℕ) (step : Step) (rest : List Step) (old new : Core) (before after : List ℕ) (t u : Tagger)
-    → (m : Midway w key steps start (step ∷ rest) old before t) → HasWaited old new step before after
+pub midway-waited : (w : Setting) (key : List ℕ) (steps : List Step) (start : List ℕ) (step : Step) (rest : List Step) (old new : Core) (before after : List ℕ) (t u : Tagger) (place : ℕ)
+    → (m : Midway w key steps start (step ∷ rest) old before t) → StepWaits old new step before after place
     → IsTagging w key m.nonce (past_of old) u
-    → Midway w key steps start rest new after u
-midway-waited w key steps start step rest old new before after t u m waited tagging =
+    → Midway w key steps start rest new (after ++ end_text (Waits place)) u
+midway-waited w key steps start step rest old new before after t u place m waited tagging =
     let room : is_full w (past_of old) ≡ false = rw m.world at waited.room in
     let locked : waits w (past_of old) step ≡ true = rw m.world at waited.locked in
     let same : past_of new ≡ past_of old = ap past_of waited.same in
@@ -98,17 +99,17 @@ midway-waited w key steps start step rest old new before after t u m waited tagg
       full = rw same (rw (room, locked) at m.full);
       nonce = m.nonce;
       tagging = rw same tagging;
-      whole = rw (same, waited.said) (append_assoc before (line (codes "again " ++ decimal (length (past_of old)))) _ ∙ (rw (room, locked) at m.whole));
+      whole = rw (same, waited.said, waited.at) (append_assoc before (line (codes "again " ++ decimal (length (past_of old)))) _ ∙ (rw (room, locked) at m.whole));
     }
 
 -- where the history is full, nothing more is printed
-pub midway-stopped : (w : Setting) (key : List ℕ) (steps : List Step) (start : List ℕ) (step : Step) (rest : List Step) (old new : Core) (before after : List ℕ) (t : Tagger)
-    → Midway w key steps start (step ∷ rest) old before t → HasStopped old new before after
-    → (after ≡ start ++ steps_printed w key [] [] steps) × (true ≡ meets_full w [] steps)
-midway-stopped w key steps start step rest old new before after t m stopped =
+pub midway-stopped : (w : Setting) (key : List ℕ) (steps : List Step) (start : List ℕ) (step : Step) (rest : List Step) (old new : Core) (before after : List ℕ) (t : Tagger) (place : ℕ)
+    → Midway w key steps start (step ∷ rest) old before t → StepFull old new before after place
+    → (after ++ end_text (Full place) ≡ start ++ steps_printed w key [] [] steps) × (true ≡ meets_full w [] steps)
+midway-stopped w key steps start step rest old new before after t place m stopped =
     let full : is_full w (past_of old) ≡ true = rw m.world at stopped.full in
-    let said : after ≡ before ++ line (codes "full " ++ decimal w.cap) = rw m.world at stopped.said in
-    (said ∙ (rw full at m.whole), rw full at m.full)
+    let cap : place ≡ w.cap = rw m.world at stopped.at in
+    (rw (stopped.said, cap) (rw full at m.whole), rw full at m.full)
 
 -- after the last step the number of entries is printed
 pub midway-all : (w : Setting) (key : List ℕ) (steps : List Step) (start : List ℕ) (core : Core) (before after : List ℕ) (t : Tagger) (count : ℕ)
@@ -127,24 +128,27 @@ midway-may w key steps start step rest core out t m = rw m.world (may_come_linke
 pub rest_at : (steps : List Step) (i : ℕ) (d : Step) → i < length steps → drop i steps ≡ get_or steps i d ∷ drop (i + 1) steps
 rest_at steps i d inside = rw (add-one, drop-cons steps i d) refl
 
--- a step that didn't find the history full
-pub midway-next : (w : Setting) (key : List ℕ) (steps : List Step) (start : List ℕ) (step : Step) (rest : List Step) (old new : Core) (before after : List ℕ) (t u : Tagger) (went : Went)
-    → (went ≡ Made) ⊎ (went ≡ Waited) → Midway w key steps start (step ∷ rest) old before t
-    → ((k n : List ℕ) → IsTagging old.world k n (past_of old) t → HasGone k n old new step before after went)
-    → ((k n : List ℕ) → IsTagging old.world k n (past_of old) t → IsTaggedBy old.world k n (nonce_with n step) (past_of old) (past_of new) u went)
-    → Midway w key steps start rest new after u
-midway-next w key steps start step rest old new before after t u went which m gone tagged =
+-- after a step with which the history isn't full
+pub midway-next : (w : Setting) (key : List ℕ) (steps : List Step) (start : List ℕ) (step : Step) (rest : List Step) (old new : Core) (before after : List ℕ) (t u : Tagger) (ended : StepEnd)
+    → is_end_full ended ≡ false → Midway w key steps start (step ∷ rest) old before t
+    → ((k n : List ℕ) → IsTagging old.world k n (past_of old) t → StepRan k n old new step before after ended)
+    → ((k n : List ℕ) → IsTagging old.world k n (past_of old) t → IsTaggedBy old.world k n (nonce_with n step) (past_of old) step u ended)
+    → Midway w key steps start rest new (after ++ end_text ended) u
+midway-next w key steps start step rest old new before after t u Made room m ran tagged =
     let tagging : IsTagging old.world key m.nonce (past_of old) t = rw m.world m.tagging in
-    elim which [
-      | inl made ↦ midway-made w key steps start step rest old new before after t u m (rw made at (gone key m.nonce tagging)) (rw (made, m.world) at (tagged key m.nonce tagging))
-      | inr waited ↦ midway-waited w key steps start step rest old new before after t u m (rw waited at (gone key m.nonce tagging)) (rw (waited, m.world) at (tagged key m.nonce tagging))
-    ]
+    subst (λ l. Midway w key steps start rest new l u) (sym (append-nil after)) (midway-made w key steps start step rest old new before after t u m (ran key m.nonce tagging) (rw m.world at (tagged key m.nonce tagging)))
+midway-next w key steps start step rest old new before after t u (Waits place) room m ran tagged =
+    let tagging : IsTagging old.world key m.nonce (past_of old) t = rw m.world m.tagging in
+    midway-waited w key steps start step rest old new before after t u place m (ran key m.nonce tagging) (rw m.world at (tagged key m.nonce tagging))
+midway-next w key steps start step rest old new before after t u (Full place) room m ran tagged = absurd (false≢true (sym room))
 
--- a step that did
-pub midway-full : (w : Setting) (key : List ℕ) (steps : List Step) (start : List ℕ) (step : Step) (rest : List Step) (old new : Core) (before after : List ℕ) (t : Tagger) (went : Went)
-    → went ≡ Full → Midway w key steps start (step ∷ rest) old before t
-    → ((k n : List ℕ) → IsTagging old.world k n (past_of old) t → HasGone k n old new step before after went)
-    → (after ≡ start ++ steps_printed w key [] [] steps) × (true ≡ meets_full w [] steps)
-midway-full w key steps start step rest old new before after t went full m gone =
+-- and with which it is
+pub midway-full : (w : Setting) (key : List ℕ) (steps : List Step) (start : List ℕ) (step : Step) (rest : List Step) (old new : Core) (before after : List ℕ) (t : Tagger) (ended : StepEnd)
+    → is_end_full ended ≡ true → Midway w key steps start (step ∷ rest) old before t
+    → ((k n : List ℕ) → IsTagging old.world k n (past_of old) t → StepRan k n old new step before after ended)
+    → (after ++ end_text ended ≡ start ++ steps_printed w key [] [] steps) × (true ≡ meets_full w [] steps)
+midway-full w key steps start step rest old new before after t Made full m ran = absurd (false≢true full)
+midway-full w key steps start step rest old new before after t (Waits place) full m ran = absurd (false≢true full)
+midway-full w key steps start step rest old new before after t (Full place) full m ran =
     let tagging : IsTagging old.world key m.nonce (past_of old) t = rw m.world m.tagging in
-    midway-stopped w key steps start step rest old new before after t m (rw full at (gone key m.nonce tagging))
+    midway-stopped w key steps start step rest old new before after t place m (ran key m.nonce tagging)

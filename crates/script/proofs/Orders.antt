@@ -1,9 +1,10 @@
 -- The order rule and the next block look at a pass in short alone, and each act changes that in its own way.
-use Rattle.std.proofs.Common.{◌≡◌, ℕ, ◌+◌, Bool, true, false, not, List, ◌∷◌, Option, Some, None, option_map, refl}
-use Rattle.std.specs.Prelude.{◌&&◌, ◌||◌, ◌==◌, nat_lt}
+use Rattle.std.proofs.Common.{◌≡◌, ℕ, Bool, true, false, not, List, ◌∷◌, Option, Some, None, option_map, unwrap_or, refl}
+use Rattle.std.specs.Prelude.{◌&&◌, ◌||◌, ◌==◌}
 use Rattle.history.specs.declared.events.Act.{Act}
 use Rattle.history.specs.declared.events.Act.TheVariants.{Fetch, Load, Store, Start, Copy, End, Tick, Release}
 use Rattle.history.specs.declared.events.Entry.{Entry}
+use Rattle.history.specs.Attested.{attested_block, index_of, is_attested, total}
 use Rattle.history.specs.Layout.{Setting}
 use Rattle.history.specs.Pass.{Pass, pass_step, pass_after, is_extended}
 use Rattle.history.specs.Legal.{in_order}
@@ -50,8 +51,7 @@ short_more actor act past = step_short actor act past (pass_after past)
 
 -- the block that the pass in short copies next
 abbrev pub block_after : Setting → Option PassState → ℕ
-block_after w None = w.first
-block_after w (Some state) = w.first + state.copied
+block_after w state = attested_block w.ranges (unwrap_or (option_map (λ (s : PassState). s.copied) state) 0)
 
 pub next_by_short : (w : Setting) (pass : Option Pass) → next_block w pass ≡ block_after w (option_map state_of pass)
 next_by_short w None = refl
@@ -62,9 +62,9 @@ abbrev pub order_by : Setting → Act → Option PassState → Bool
 order_by w (Start discipline counter) None = true
 order_by w (Start discipline counter) (Some state) = not (not state.ended || (is_extended state.discipline && not state.released))
 order_by w (Copy block) None = false
-order_by w (Copy block) (Some state) = not state.ended && nat_lt state.copied w.attested && (block == w.first + state.copied)
+order_by w (Copy block) (Some state) = not state.ended && is_attested w.ranges block && (index_of w.ranges block == state.copied)
 order_by w End None = false
-order_by w End (Some state) = not state.ended && (state.copied == w.attested)
+order_by w End (Some state) = not state.ended && (state.copied == total w.ranges)
 order_by w Release None = false
 order_by w Release (Some state) = is_extended state.discipline && state.ended && not state.released
 order_by w (Fetch addr value) state = true

@@ -1,6 +1,7 @@
 -- The tag that Release prints is that of a note on the pass and on what its End printed.
 use Rattle.std.proofs.Common.{◌≡◌, ℕ, ◌+◌, Bool, true, false, not, List, [], ◌∷◌, ◌++◌, length, reverse, Option, Some, None, option_map, refl, sym, ap, ap₂, ◌∙◌, subst, inl, inr, append_assoc}
 use Rattle.std.specs.Prelude.{◌&&◌, ◌||◌, ◌⊎◌, IsTrue, if◌then◌else◌}
+use Rattle.std.specs.Option.{option_map_or}
 use Rattle.std.proofs.lemmas.Bool.{false≢true, and_parts}
 use Rattle.std.proofs.lemmas.List.{reverse-reverse, length-reverse}
 use Rattle.history.specs.declared.events.Act.TheVariants as acts
@@ -13,18 +14,15 @@ use Rattle.script.specs.declared.steps.Step.{Step}
 use Rattle.script.specs.declared.steps.Step.TheVariants.{Load, Store, Start, Copy, End, Tick, Release}
 use Rattle.report.specs.Tags.{note_tag}
 use Rattle.script.specs.Steps.{entry_of, is_full, waits, entries_after}
-use Rattle.script.specs.Printed.{before_end, nonce_with, note_of_pass, tag_at_end, tag_at_release}
+use Rattle.script.specs.Printed.{before_end, nonce_with, tag_at_end, tag_at_release}
 use Rattle.script.specs.Programs.{Program}
 use Rattle.script.specs.Attested.{IsScript, IsReleased, NotesEnd, history_of, nonce_after}
 use Rattle.script.proofs.Legals.{outcomes}
 use Rattle.script.proofs.Parts.{stands, entries_next, entries_waiting}
 use Rattle.script.proofs.Shown.{waiting_nonce, shown}
 use Rattle.script.proofs.WentOn.{WentOn, went_on}
-use Rattle.script.proofs.Tagged.{EndsThere, ends_here}
-
--- a Release releases the pass that is there
-abbrev pub ReleasesThere : Type 0
-ReleasesThere = (history : List Entry) (entry : Entry) (more : List Entry) (pass : Pass) → pass_after (reverse history) ≡ Some pass → entry.act ≡ acts.Release → ReleasesAt (history ++ entry ∷ more) pass.discipline pass.counter (start_of pass) (length history + 1)
+use Rattle.chronicle.specs.Laws.{EndsThere, ReleasesThere}
+use Rattle.script.proofs.Tagged.{ends_here}
 
 -- two passes have the same Start
 record SameStart (earlier pass : Pass) : Type 0 where
@@ -197,7 +195,7 @@ ends_same history begun pass place same ends =
 note_is : (w : Setting) (key nonce : List ℕ) (past : List Entry) (pass : Pass) (nonce_then : List ℕ) (past_then : List Entry) → pass_after past ≡ Some pass → before_end past ≡ past_then → nonce ≡ nonce_then
     → tag_at_release w key nonce past ≡ note_tag key pass.counter (start_of pass) (length past_then + 1) (length past + 1) (tag_at_end w key nonce_then past_then)
 note_is w key nonce past pass nonce_then past_then last end same =
-    ap (note_of_pass w key nonce past) last
+    ap (λ o. option_map_or (λ (p : Pass). note_tag key p.counter (start_of p) (length (before_end past) + 1) (length past + 1) (tag_at_end w key nonce (before_end past))) o []) last
     ∙ ap₂ (λ older n. note_tag key pass.counter (start_of pass) (length older + 1) (length past + 1) (tag_at_end w key n older)) end same
 
 -- all of it at one Release

@@ -84,8 +84,4 @@ pub shown : (program : Program) (before later : List Step) (step : Step) → pro
     → PrintsStep program before step
 shown program before later step is room free =
     let h = has_line program.setting program.key [] [] before later step room free in
-    record {
-      earlier = h.earlier;
-      later = h.later;
-      whole = ap (steps_printed program.setting program.key [] []) is ∙ h.whole;
-    }
+    (h.earlier, h.later, ap (steps_printed program.setting program.key [] []) is ∙ h.whole)

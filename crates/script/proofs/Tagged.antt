@@ -1,6 +1,7 @@
 -- The tag that End prints is that of the attested memory at each instant of its pass.
 use Rattle.std.proofs.Common.{◌≡◌, ℕ, ◌+◌, List, [], ◌∷◌, ◌++◌, length, reverse, Option, Some, None, refl, sym, ap, ◌∙◌, subst}
 use Rattle.std.specs.Prelude.{IsTrue}
+use Rattle.std.specs.Option.{option_map_or}
 use Rattle.std.proofs.lemmas.Bool.{false≢true}
 use Rattle.std.proofs.lemmas.List.{reverse-reverse, length-reverse}
 use Rattle.history.specs.declared.events.Act.TheVariants as acts
@@ -13,23 +14,16 @@ use Rattle.history.specs.Copied.{copied_bytes}
 use Rattle.history.specs.Instants.{EndsAt}
 use Rattle.history.specs.Sliding.{CopiedIsMemory}
 use Rattle.script.specs.declared.steps.Step.TheVariants.{End}
+use Rattle.chronicle.specs.Laws.{EndsThere, EndCopiesNone}
 use Rattle.chronicle.specs.Worlds.{shape_of}
 use Rattle.report.specs.Tags.{report_tag}
 use Rattle.script.specs.Steps.{entry_of, entries_after}
-use Rattle.script.specs.Printed.{tag_of_pass}
+use Rattle.script.specs.Printed.{asked_by_pass}
 use Rattle.script.specs.Programs.{Program}
-use Rattle.script.specs.Attested.{IsScript, IsAttested, history_of, nonce_after, asked_of, TagsInstants}
+use Rattle.script.specs.Attested.{IsScript, IsAttested, history_of, nonce_after, TagsInstants}
 use Rattle.script.proofs.Legals.{script_legal}
 use Rattle.script.proofs.Parts.{stands}
 use Rattle.script.proofs.Shown.{shown}
-
--- an End ends the pass that is there
-abbrev pub EndsThere : Type 0
-EndsThere = (history : List Entry) (entry : Entry) (more : List Entry) (pass : Pass) → pass_after (reverse history) ≡ Some pass → entry.act ≡ acts.End → EndsAt (history ++ entry ∷ more) pass.discipline pass.counter (start_of pass) (length history + 1)
-
--- and copies nothing
-abbrev pub EndCopiesNone : Type 0
-EndCopiesNone = (w : Setting) (history : List Entry) (entry : Entry) (more : List Entry) → entry.act ≡ acts.End → copied_bytes w (back (history ++ entry ∷ more) (length history + 1)) ≡ copied_bytes w (reverse history)
 
 -- a pass is there
 pub record HasPass (before : Option Pass) : Type 0 where
@@ -65,8 +59,8 @@ tags_instants copied none program script nonce past entry more pass whole is las
     let same : attested_bytes w (memory_at w history place) ≡ copied_bytes w past =
     copied w script.setting history (script_legal program script) pass.discipline pass.counter (start_of pass) (length past + 1) release ends releases place instant
     ∙ copied_here none w history past entry more whole is in
-    ap (tag_of_pass w program.key nonce past) last
-    ∙ ap (λ bytes. report_tag program.key (asked_of pass nonce) (shape_of w) bytes (start_of pass) (length past + 1)) (sym same)
+    ap (λ o. option_map_or (λ (p : Pass). report_tag program.key (asked_by_pass p nonce) (shape_of w) (copied_bytes w past) (start_of p) (length past + 1)) o []) last
+    ∙ ap (λ bytes. report_tag program.key (asked_by_pass pass nonce) (shape_of w) bytes (start_of pass) (length past + 1)) (sym same)
 
 -- all of it at one End
 module _ (copied : CopiedIsMemory) (ends : EndsThere) (none : EndCopiesNone) where

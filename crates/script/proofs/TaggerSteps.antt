@@ -1,5 +1,5 @@
 -- The tagger keeps up with the pass, step by step.
-use Rattle.std.proofs.Common.{◌≡◌, ℕ, ◌+◌, Bool, true, false, List, [], ◌∷◌, ◌++◌, length, Option, Some, None, refl, sym, ◌∙◌, ap, subst, append-nil, append_assoc, arith}
+use Rattle.std.proofs.Common.{◌≡◌, ℕ, ◌+◌, Bool, true, false, List, [], ◌∷◌, ◌++◌, length, Option, Some, None, refl, sym, ◌∙◌, ap, ap₂, subst, append-nil, append_assoc, arith}
 use Rattle.std.specs.Option.{option_map}
 use Rattle.std.proofs.lemmas.Option.{same_Some}
 use Rattle.std.proofs.lemmas.Bool.{false≢true}
@@ -17,7 +17,8 @@ use Rattle.hmac256.specs.Hmac.{hmac}
 use Rattle.chronicle.specs.Worlds.{shape_of}
 use Rattle.report.specs.Tags.{head_bytes, tail_bytes, report_tag, note_head_bytes, note_tag}
 use Rattle.script.specs.Printed.{before_end, tag_at_end, tag_at_release}
-use Rattle.script.specs.Attested.{asked_of}
+use Rattle.script.specs.Printed.{asked_by_pass}
+use Rattle.std.specs.Option.{option_map_or}
 use Rattle.script.specs.Tagging.{IsTagging, IsHashing}
 use Rattle.script.proofs.WentOn.{went_on}
 use Rattle.script.specs.declared.tagger.Tagger.{Tagger}
@@ -61,7 +62,7 @@ tagging-copy w key nonce past block old new tagging key_is counter_is start_is e
       let more : IsHashing w key nonce (measurer (act.Copy block) ∷ past) (longer (measurer (act.Copy block)) was.earlier) new = record {
         counter = counter_is ∙ hashing.counter;
         start = start_is ∙ hashing.start;
-        hashed = λ e. subst (λ (text : List ℕ). StandsFor new.hmac key text) (append_assoc (head_bytes (asked_of was.earlier nonce) (shape_of w)) (copied_bytes w past) (block_bytes w (memory_after w past) block)) (update key (head_bytes (asked_of was.earlier nonce) (shape_of w) ++ copied_bytes w past) (hashing.hashed e));
+        hashed = λ e. subst (λ (text : List ℕ). StandsFor new.hmac key text) (append_assoc (head_bytes (asked_by_pass was.earlier nonce) (shape_of w)) (copied_bytes w past) (block_bytes w (memory_after w past) block)) (update key (head_bytes (asked_by_pass was.earlier nonce) (shape_of w) ++ copied_bytes w past) (hashing.hashed e));
         end = λ e. end_is ∙ hashing.end e;
         tag = λ e. tag_is ∙ hashing.tag e;
       } in
@@ -90,7 +91,7 @@ tagging-end w key nonce past old new tagging key_is counter_is start_is end_is t
 -- the tag of a report, as it is digested
 pub tag_digested : (w : Setting) (key nonce : List ℕ) (past : List Entry) (pass : Pass) (start place : ℕ) (tag : List ℕ)
     → pass_after past ≡ Some pass → start ≡ start_of pass → place ≡ length past + 1
-    → tag ≡ hmac key ((head_bytes (asked_of pass nonce) (shape_of w) ++ copied_bytes w past) ++ tail_bytes start place)
+    → tag ≡ hmac key ((head_bytes (asked_by_pass pass nonce) (shape_of w) ++ copied_bytes w past) ++ tail_bytes start place)
     → tag ≡ tag_at_end w key nonce past
 unfolding report_tag
 tag_digested w key nonce past pass start place tag is start_is place_is digested = rw (is, ← start_is, ← place_is) digested
@@ -103,7 +104,13 @@ pub note_digested : (w : Setting) (key nonce : List ℕ) (past : List Entry) (pa
     → tag ≡ tag_at_release w key nonce past
 unfolding note_tag
 note_digested w key nonce past pass counter start end place report tag is counter_is start_is end_is place_is report_is digested =
-    rw (is, ← counter_is, ← start_is, ← end_is, ← place_is, ← report_is) digested
+    let ended = tag_at_end w key nonce (before_end past) in
+    digested
+    ∙ ap (λ r. hmac key (note_head_bytes counter start end place ++ r)) report_is
+    ∙ ap (λ n. hmac key (note_head_bytes n start end place ++ ended)) counter_is
+    ∙ ap (λ n. hmac key (note_head_bytes pass.counter n end place ++ ended)) start_is
+    ∙ ap₂ (λ m n. hmac key (note_head_bytes pass.counter (start_of pass) m n ++ ended)) end_is place_is
+    ∙ ap (λ o. option_map_or (λ (p : Pass). note_tag key p.counter (start_of p) (length (before_end past) + 1) (length past + 1) ended) o []) (sym is)
 
 -- the act neither begins nor ends a pass, and copies nothing
 abbrev pub is_plain : Act → Bool

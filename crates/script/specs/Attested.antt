@@ -8,12 +8,11 @@ use Rattle.history.specs.Legal.{IsLegal}
 use Rattle.history.specs.Instants.{IsInstant, EndsAt, ReleasesAt}
 use Rattle.script.specs.declared.steps.Step.{Step}
 use Rattle.script.specs.declared.steps.Step.TheVariants.{Store, End, Release}
-use Rattle.challenge.specs.Challenges.{Asked}
 use Rattle.chronicle.specs.Worlds.{shape_of}
 use Rattle.report.specs.Tags.{report_tag, note_tag}
 use Rattle.script.specs.Steps.{entries_after, is_full}
 use Rattle.script.specs.Measuring.{measured_with, may_come}
-use Rattle.script.specs.Printed.{nonce_with, tag_at_end, tag_at_release, step_printed, printed}
+use Rattle.script.specs.Printed.{asked_by_pass, nonce_with, tag_at_end, tag_at_release, step_printed, printed}
 use Rattle.script.specs.Programs.{Program}
 
 -- each step may come after those before it
@@ -22,9 +21,9 @@ MayComeAll w measured [] = Unit {0}
 MayComeAll w measured (step ∷ steps) = IsTrue (may_come w measured step) × MayComeAll w (measured_with w measured step) steps
 
 -- a stored value fits its width
-abbrev pub IsWithin : Step → Type 0
-IsWithin (Store width addr value) = value < 256 ^ width_bytes width
-IsWithin _ = Unit {0}
+abbrev pub FitsWidth : Step → Type 0
+FitsWidth (Store width addr value) = value < 256 ^ width_bytes width
+FitsWidth _ = Unit {0}
 
 -- a script that is in the grammar
 pub record IsScript (program : Program) : Type 0 where
@@ -40,55 +39,41 @@ abbrev pub nonce_after : List ℕ → List Step → List ℕ
 nonce_after nonce [] = nonce
 nonce_after nonce (step ∷ steps) = nonce_after (nonce_with nonce step) steps
 
+-- the entries once these first steps of the script are made, the newest first
+abbrev pub entries_at : Program → List Step → List Entry
+entries_at program before = entries_after program.setting [] before
+
 -- the line of this step, which comes after those, stands in what the script prints
-pub record PrintsStep (program : Program) (before : List Step) (step : Step) : Type 0 where
-  pub earlier : List ℕ
-  pub later : List ℕ
-  pub whole : printed program ≡ earlier ++ step_printed program.setting program.key (nonce_after [] before) (entries_after program.setting [] before) step ++ later
+abbrev pub PrintsStep : Program → List Step → Step → Type 0
+PrintsStep program before step = (earlier : List ℕ) × (later : List ℕ) × (printed program ≡ earlier ++ step_printed program.setting program.key (nonce_after [] before) (entries_at program before) step ++ later)
 
--- what the pass was asked for
-abbrev pub asked_of : Pass → List ℕ → Asked
-asked_of pass nonce = record { discipline = pass.discipline; counter = pass.counter; nonce = nonce }
-
--- The tag that is printed at this place, End's, is that of a report on the attested memory as it stood at
--- each instant of its pass in the script's history.
+-- the tag that End prints at this place is that of a report on the attested memory at each instant of its pass
 abbrev pub TagsInstants : Program → List ℕ → List Entry → Pass → Type 0
 TagsInstants program nonce past pass =
-    (place release : ℕ) → (IsTrue (is_extended pass.discipline) → ReleasesAt (history_of program) pass.discipline pass.counter (start_of pass) release)
-    → IsInstant pass.discipline (start_of pass) (length past + 1) release place
-    → tag_at_end program.setting program.key nonce past
-    ≡ report_tag program.key (asked_of pass nonce) (shape_of program.setting) (attested_bytes program.setting (memory_at program.setting (history_of program) place)) (start_of pass) (length past + 1)
+    (place release : ℕ) → (IsTrue (is_extended pass.discipline) → ReleasesAt (history_of program) pass.discipline pass.counter (start_of pass) release) → IsInstant pass.discipline (start_of pass) (length past + 1) release place
+    → tag_at_end program.setting program.key nonce past ≡ report_tag program.key (asked_by_pass pass nonce) (shape_of program.setting) (attested_bytes program.setting (memory_at program.setting (history_of program) place)) (start_of pass) (length past + 1)
 
--- The history is legal. Wherever an End finds room, its line is printed, there is its pass, which ends at that
--- place of the history, and its tag is that of the attested memory at each of the pass's instants.
+-- The history is legal. Where an End finds room, its line is printed, its pass ends at that place, and its tag is that
+-- of the attested memory at each of the pass's instants.
 pub record IsAttested (program : Program) : Type 0 where
   pub legal : IsLegal program.setting (history_of program)
-  pub tags : (before later : List Step) → program.steps ≡ before ++ End ∷ later
-      → is_full program.setting (entries_after program.setting [] before) ≡ false
-      → PrintsStep program before End
-      × (pass : Pass) × (pass_after (entries_after program.setting [] before) ≡ Some pass)
-      × EndsAt (history_of program) pass.discipline pass.counter (start_of pass) (length (entries_after program.setting [] before) + 1)
-      × TagsInstants program (nonce_after [] before) (entries_after program.setting [] before) pass
+  pub tags : (before later : List Step) → program.steps ≡ before ++ End ∷ later → is_full program.setting (entries_at program before) ≡ false
+      → PrintsStep program before End × (pass : Pass) × (pass_after (entries_at program before) ≡ Some pass)
+      × EndsAt (history_of program) pass.discipline pass.counter (start_of pass) (length (entries_at program before) + 1) × TagsInstants program (nonce_after [] before) (entries_at program before) pass
 
--- What the note on a release says: one of the steps before the Release is an End that is printed and that ends
--- the pass at its own place, and the note's tag is that of the counter, of the places of Start, End and
--- Release, and of the tag that this End prints.
+-- What a note says: an End among these steps is printed and ends the pass at its own place, and the note's tag is that
+-- of the counter, of the places of Start, End and Release, and of the tag that this End prints.
 pub record NotesEnd (program : Program) (before : List Step) (pass : Pass) : Type 0 where
   pub earlier : List Step
   pub between : List Step
   pub steps : before ≡ earlier ++ End ∷ between
-  pub room : is_full program.setting (entries_after program.setting [] earlier) ≡ false
-  pub ends : EndsAt (history_of program) pass.discipline pass.counter (start_of pass) (length (entries_after program.setting [] earlier) + 1)
-  pub tag : tag_at_release program.setting program.key (nonce_after [] before) (entries_after program.setting [] before)
-      ≡ note_tag program.key pass.counter (start_of pass) (length (entries_after program.setting [] earlier) + 1) (length (entries_after program.setting [] before) + 1)
-      (tag_at_end program.setting program.key (nonce_after [] earlier) (entries_after program.setting [] earlier))
+  pub room : is_full program.setting (entries_at program earlier) ≡ false
+  pub ends : EndsAt (history_of program) pass.discipline pass.counter (start_of pass) (length (entries_at program earlier) + 1)
+  pub tag : tag_at_release program.setting program.key (nonce_after [] before) (entries_at program before)
+      ≡ note_tag program.key pass.counter (start_of pass) (length (entries_at program earlier) + 1) (length (entries_at program before) + 1) (tag_at_end program.setting program.key (nonce_after [] earlier) (entries_at program earlier))
 
--- Wherever a Release finds room, its line is printed, there is its pass, which is released at that place of the
--- history, and its tag is that of a note on the pass.
+-- Where a Release finds room, its line is printed, its pass is released at that place, and its tag is that of a note.
 pub record IsReleased (program : Program) : Type 0 where
-  pub notes : (before later : List Step) → program.steps ≡ before ++ Release ∷ later
-      → is_full program.setting (entries_after program.setting [] before) ≡ false
-      → PrintsStep program before Release
-      × (pass : Pass) × (pass_after (entries_after program.setting [] before) ≡ Some pass)
-      × ReleasesAt (history_of program) pass.discipline pass.counter (start_of pass) (length (entries_after program.setting [] before) + 1)
-      × NotesEnd program before pass
+  pub notes : (before later : List Step) → program.steps ≡ before ++ Release ∷ later → is_full program.setting (entries_at program before) ≡ false
+      → PrintsStep program before Release × (pass : Pass) × (pass_after (entries_at program before) ≡ Some pass)
+      × ReleasesAt (history_of program) pass.discipline pass.counter (start_of pass) (length (entries_at program before) + 1) × NotesEnd program before pass

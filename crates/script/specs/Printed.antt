@@ -1,7 +1,8 @@
 -- What a script prints, line by line.
-use Rattle.std.specs.Prelude.{ℕ, ◌+◌, if◌then◌else◌, List, [], ◌∷◌, ◌++◌, length, codes, Option, Some, None}
+use Rattle.std.specs.Prelude.{ℕ, ◌+◌, if◌then◌else◌, List, [], ◌∷◌, ◌++◌, length, codes}
 use Rattle.std.specs.Int.{to_be_bytes, w16, w32}
 use Rattle.std.specs.Fmt.{decimal}
+use Rattle.std.specs.Option.{option_map_or}
 use Rattle.hex.specs.Hex.{encode_lower}
 use Rattle.history.specs.declared.events.Width.{Width}
 use Rattle.history.specs.declared.events.Width.TheVariants.{Byte, Half, Word}
@@ -13,6 +14,7 @@ use Rattle.history.specs.Copied.{copied_bytes}
 use Rattle.script.specs.declared.steps.Step.{Step}
 use Rattle.script.specs.declared.steps.Step.TheVariants.{Load, Store, Start, Copy, End, Tick, Release}
 use Rattle.chronicle.specs.Worlds.{shape_of}
+use Rattle.challenge.specs.Challenges.{Asked}
 use Rattle.report.specs.Tags.{report_tag, note_tag}
 use Rattle.script.specs.Steps.{next_block, entry_of, is_full, waits}
 use Rattle.script.specs.Programs.{Program}
@@ -26,14 +28,13 @@ value_digits Byte value = encode_lower (value ∷ [])
 value_digits Half value = encode_lower (to_be_bytes w16 value)
 value_digits Word value = encode_lower (to_be_bytes w32 value)
 
--- The tag that End prints after these entries, the newest first: over the bytes that the pass has copied,
--- each block as it was at its own Copy. The nonce is that of the pass's Start.
-abbrev pub tag_of_pass : Setting → List ℕ → List ℕ → List Entry → Option Pass → List ℕ
-tag_of_pass w key nonce past None = []
-tag_of_pass w key nonce past (Some pass) = report_tag key (record { discipline = pass.discipline; counter = pass.counter; nonce = nonce }) (shape_of w) (copied_bytes w past) (start_of pass) (length past + 1)
+-- what the pass was asked for
+abbrev pub asked_by_pass : Pass → List ℕ → Asked
+asked_by_pass pass nonce = record { discipline = pass.discipline; counter = pass.counter; nonce = nonce }
 
+-- the tag that End prints after these entries: over the bytes that the pass has copied, each block as it was at its own Copy
 abbrev pub tag_at_end : Setting → List ℕ → List ℕ → List Entry → List ℕ
-tag_at_end w key nonce past = tag_of_pass w key nonce past (pass_after past)
+tag_at_end w key nonce past = option_map_or (λ pass. report_tag key (asked_by_pass pass nonce) (shape_of w) (copied_bytes w past) (start_of pass) (length past + 1)) (pass_after past) []
 
 -- the entries before the last End
 abbrev pub before_end : List Entry → List Entry
@@ -41,13 +42,8 @@ before_end [] = []
 before_end (entry ∷ past) = if is_end entry.act then past else before_end past
 
 -- the tag that Release prints: over the places of the pass and the tag that its End printed
-abbrev pub note_of_pass : Setting → List ℕ → List ℕ → List Entry → Option Pass → List ℕ
-note_of_pass w key nonce past None = []
-note_of_pass w key nonce past (Some pass) =
-    note_tag key pass.counter (start_of pass) (length (before_end past) + 1) (length past + 1) (tag_at_end w key nonce (before_end past))
-
 abbrev pub tag_at_release : Setting → List ℕ → List ℕ → List Entry → List ℕ
-tag_at_release w key nonce past = note_of_pass w key nonce past (pass_after past)
+tag_at_release w key nonce past = option_map_or (λ pass. note_tag key pass.counter (start_of pass) (length (before_end past) + 1) (length past + 1) (tag_at_end w key nonce (before_end past))) (pass_after past) []
 
 -- what a step prints after its place
 abbrev pub step_text : Setting → List ℕ → List ℕ → List Entry → Step → List ℕ

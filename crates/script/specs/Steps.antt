@@ -1,19 +1,20 @@
 -- What the steps of a script do to the history.
-use Rattle.std.specs.Prelude.{ℕ, ◌+◌, Bool, true, false, not, nat_lt, if◌then◌else◌, List, [], ◌∷◌, length, Option, Some, None}
+use Rattle.std.specs.Prelude.{ℕ, Bool, true, false, not, nat_lt, if◌then◌else◌, List, [], ◌∷◌, length, Option, option_map, unwrap_or}
 use Rattle.history.specs.declared.events.Act.{Act}
 use Rattle.history.specs.declared.events.Act.TheVariants as acts
 use Rattle.history.specs.declared.events.Entry.{Entry}
+use Rattle.history.specs.Attested.{attested_block}
 use Rattle.history.specs.Layout.{Setting, block_of}
 use Rattle.history.specs.Memory.{memory_after, value_in}
 use Rattle.history.specs.Pass.{Pass, pass_after, copied_of}
 use Rattle.history.specs.Locks.{is_locked}
+use Rattle.history.specs.Legal.{is_access}
 use Rattle.script.specs.declared.steps.Step.{Step}
 use Rattle.script.specs.declared.steps.Step.TheVariants.{Load, Store, Start, Copy, End, Tick, Release}
 
 -- the block that a pass copies next
 abbrev pub next_block : Setting → Option Pass → ℕ
-next_block w None = w.first
-next_block w (Some pass) = w.first + copied_of pass
+next_block w pass = attested_block w.ranges (unwrap_or (option_map copied_of pass) 0)
 
 -- what a step does after these entries, the newest first
 abbrev pub act_of : Setting → List Entry → Step → Act
@@ -25,15 +26,9 @@ act_of w past End = acts.End
 act_of w past Tick = acts.Tick
 act_of w past Release = acts.Release
 
--- loads and stores are application 1's, all else is the measurer's
-abbrev pub actor_of : Step → ℕ
-actor_of (Load width addr) = 1
-actor_of (Store width addr value) = 1
-actor_of _ = 0
-
--- the entry that a step makes
+-- the entry that a step makes: loads and stores are application 1's, all else is the measurer's
 abbrev pub entry_of : Setting → List Entry → Step → Entry
-entry_of w past step = record { actor = actor_of step; act = act_of w past step }
+entry_of w past step = record { actor = if is_access (act_of w past step) then 1 else 0; act = act_of w past step }
 
 -- the history has as many entries as it may have
 abbrev pub is_full : Setting → List Entry → Bool
@@ -44,13 +39,11 @@ abbrev pub waits : Setting → List Entry → Step → Bool
 waits w past (Store width addr value) = is_locked w past (block_of w.layout addr)
 waits w past _ = false
 
--- the entries after these steps, the newest first: a store that waits makes none, and nothing comes after
--- a step that finds the history full
+-- the entries after these steps, the newest first: a store that waits makes none, and nothing comes once the history is full
 abbrev pub entries_after : Setting → List Entry → List Step → List Entry
 entries_after w past [] = past
 entries_after w past (step ∷ steps) =
-    if is_full w past then past
-    else (if waits w past step then entries_after w past steps
+    if is_full w past then past else (if waits w past step then entries_after w past steps
     else entries_after w (entry_of w past step ∷ past) steps)
 
 -- a step finds the history full

@@ -5,10 +5,10 @@ ghost use Rattle.std.specs.Fmt.{decimal};
 ghost use Rattle.history.specs.Layout.{width_bytes};
 ghost use Rattle.script.specs.declared.steps.Step.{Step as AStep};
 ghost use Rattle.script.specs.Measuring.{may_come};
-ghost use Rattle.script.specs.Attested.{IsWithin, MayComeAll};
+ghost use Rattle.script.specs.Attested.{FitsWidth, MayComeAll};
 ghost use Rattle.script.specs.Steps.{meets_full};
 ghost use Rattle.script.specs.Printed.{line, value_digits, nonce_with, steps_printed, printed};
-ghost use Rattle.script.specs.Running.{HasGone, IsTaggedBy, past_of};
+ghost use Rattle.script.specs.Running.{StepRan, IsTaggedBy, end_text, is_end_full, past_of};
 ghost use Rattle.history.specs.Pass.{pass_after};
 ghost use Rattle.script.specs.Steps.{next_block};
 ghost use Rattle.script.specs.Tagging.{IsTagging};
@@ -16,9 +16,11 @@ ghost use Rattle.script.specs.Tagging.{IsTagging};
 use crate::lines::{say_bytes, say_number, say_step, say_total};
 use crate::tagger::Tagger;
 use crate::{Script, Step};
-use chronicle::{Discipline, Width, memory_is_bytes};
+use chronicle::{
+    BlockPort, Discipline, MemPort, Read, Step as Done, Stored, Width, one_entry_more,
+};
 use lock_plan::PlanStep;
-use mem_core::{Answer, MemCore, Want};
+use mem_core::{Direct, MemCore};
 use std::alloc::{AllocError, Global};
 
 /// What a script prints, and whether its history filled.
@@ -28,15 +30,21 @@ pub struct Printed {
     pub is_full: bool,
 }
 
-/// How a step of a script went.
+/// The measurer, as entries number actors.
+const MEASURER: u32 = 0;
+
+/// The one application of a script.
+const APPLICATION: u32 = 1;
+
+/// How a step of a script ended. A place is a number of entries.
 #[derive(Clone, Copy, Debug, PartialEq, Eq)]
-pub enum Went {
-    /// It made its entry.
+pub enum StepEnd {
+    /// It made its entry, and its line is printed.
     Made,
     /// A store has to wait.
-    Waited,
+    Waits { place: u64 },
     /// The history is full.
-    Full,
+    Full { place: u64 },
 }
 
 // A value that was loaded, in two digits for each byte.
@@ -51,21 +59,22 @@ fn say_value(out: &mut Vec<u8>, place: u64, width: Width, value: u32) -> Result<
     }
 }
 
-fn load(core: &mut MemCore, out: &mut Vec<u8>, width: Width, addr: u32) -> Result<Went, AllocError>
+fn load(
+    core: &mut MemCore,
+    out: &mut Vec<u8>,
+    width: Width,
+    addr: u32,
+) -> Result<StepEnd, AllocError>
     requires { IsTrue (may_come core.old.world (past_of core.old) (AStep.Load width addr)) }
-    ensures { (key nonce : List ℕ) → IfOk result (HasGone key nonce core.old core.new (AStep.Load width addr) out.old.items out.new.items) }
+    ensures { (key nonce : List ℕ) → IfOk result (StepRan key nonce core.old core.new (AStep.Load width addr) out.old.items out.new.items) }
 {
-    memory_is_bytes();
-    match core.act(1, Want::Load { addr, width }) {
-        Answer::Done { value, place } => {
+    one_entry_more();
+    match Direct::new(core, APPLICATION).load(addr, width) {
+        Read::Done { value, place } => {
             say_value(out, place, width, value)?;
-            Ok(Went::Made)
+            Ok(StepEnd::Made)
         }
-        Answer::Again { .. } => unreachable!(),
-        Answer::Full { place } => {
-            say_total(out, b"full ", place)?;
-            Ok(Went::Full)
-        }
+        Read::Full { place } => Ok(StepEnd::Full { place }),
     }
 }
 
@@ -75,40 +84,32 @@ fn store(
     width: Width,
     addr: u32,
     value: u32,
-) -> Result<Went, AllocError>
+) -> Result<StepEnd, AllocError>
     requires may { IsTrue (may_come core.old.world (past_of core.old) (AStep.Store width addr value)) }
     requires small { value < 256 ^ width_bytes width }
-    ensures { (key nonce : List ℕ) → IfOk result (HasGone key nonce core.old core.new (AStep.Store width addr value) out.old.items out.new.items) }
+    ensures { (key nonce : List ℕ) → IfOk result (StepRan key nonce core.old core.new (AStep.Store width addr value) out.old.items out.new.items) }
 {
-    match core.act(1, Want::Store { addr, width, value }) {
-        Answer::Done { place, .. } => {
+    one_entry_more();
+    match Direct::new(core, APPLICATION).store(addr, width, value) {
+        Stored::Done { place } => {
             say_step(out, place, b" store")?;
-            Ok(Went::Made)
+            Ok(StepEnd::Made)
         }
-        Answer::Again { place } => {
-            say_total(out, b"again ", place)?;
-            Ok(Went::Waited)
-        }
-        Answer::Full { place } => {
-            say_total(out, b"full ", place)?;
-            Ok(Went::Full)
-        }
+        Stored::Again { place } => Ok(StepEnd::Waits { place }),
+        Stored::Full { place } => Ok(StepEnd::Full { place }),
     }
 }
 
-fn tick(core: &mut MemCore, out: &mut Vec<u8>) -> Result<Went, AllocError>
-    ensures { (key nonce : List ℕ) → IfOk result (HasGone key nonce core.old core.new AStep.Tick out.old.items out.new.items) }
+fn tick(core: &mut MemCore, out: &mut Vec<u8>) -> Result<StepEnd, AllocError>
+    ensures { (key nonce : List ℕ) → IfOk result (StepRan key nonce core.old core.new AStep.Tick out.old.items out.new.items) }
 {
-    match core.act(0, Want::Tick) {
-        Answer::Done { place, .. } => {
+    one_entry_more();
+    match Direct::new(core, MEASURER).tick() {
+        Done::Done { place } => {
             say_step(out, place, b" tick")?;
-            Ok(Went::Made)
+            Ok(StepEnd::Made)
         }
-        Answer::Again { .. } => unreachable!(),
-        Answer::Full { place } => {
-            say_total(out, b"full ", place)?;
-            Ok(Went::Full)
-        }
+        Done::Full { place } => Ok(StepEnd::Full { place }),
     }
 }
 
@@ -119,30 +120,21 @@ fn start(
     discipline: Discipline,
     counter: u64,
     nonce: &[u8; 16],
-) -> Result<Went, AllocError>
+) -> Result<StepEnd, AllocError>
     requires { IsTrue (may_come core.old.world (past_of core.old) (AStep.Start discipline counter nonce.now)) }
-    ensures gone { (key old : List ℕ) → IfOk result (HasGone key old core.old core.new (AStep.Start discipline counter nonce.now) out.old.items out.new.items) }
+    ensures ran { (key old : List ℕ) → IfOk result (StepRan key old core.old core.new (AStep.Start discipline counter nonce.now) out.old.items out.new.items) }
     ensures tagging { (key old : List ℕ) → IsTagging core.old.world key old (past_of core.old) tagger.old
-        → IfOk result (IsTaggedBy core.old.world key old nonce.now (past_of core.old) (past_of core.new) tagger.new) }
+        → IfOk result (IsTaggedBy core.old.world key old nonce.now (past_of core.old) (AStep.Start discipline counter nonce.now) tagger.new) }
 {
+    one_entry_more();
     let shape = core.world().shape();
-    match core.act(
-        0,
-        Want::Start {
-            discipline,
-            counter,
-        },
-    ) {
-        Answer::Done { place, .. } => {
+    match Direct::new(core, MEASURER).start(discipline, counter) {
+        Done::Done { place } => {
             tagger.started(discipline, counter, nonce, &shape, place);
             say_step(out, place, b" start")?;
-            Ok(Went::Made)
+            Ok(StepEnd::Made)
         }
-        Answer::Again { .. } => unreachable!(),
-        Answer::Full { place } => {
-            say_total(out, b"full ", place)?;
-            Ok(Went::Full)
-        }
+        Done::Full { place } => Ok(StepEnd::Full { place }),
     }
 }
 
@@ -152,65 +144,56 @@ fn copy(
     buffer: &mut [u8],
     out: &mut Vec<u8>,
     block: u32,
-) -> Result<Went, AllocError>
+) -> Result<StepEnd, AllocError>
     requires may { IsTrue (may_come core.old.world (past_of core.old) AStep.Copy) }
     requires next { block ≡ next_block core.old.world (pass_after (past_of core.old)) }
     requires room { length buffer.old ≡ core.old.world.layout.size }
-    ensures gone { (key nonce : List ℕ) → IfOk result (HasGone key nonce core.old core.new AStep.Copy out.old.items out.new.items) }
+    ensures ran { (key nonce : List ℕ) → IfOk result (StepRan key nonce core.old core.new AStep.Copy out.old.items out.new.items) }
     ensures tagging { (key nonce : List ℕ) → IsTagging core.old.world key nonce (past_of core.old) tagger.old
-        → IfOk result (IsTaggedBy core.old.world key nonce nonce (past_of core.old) (past_of core.new) tagger.new) }
+        → IfOk result (IsTaggedBy core.old.world key nonce nonce (past_of core.old) AStep.Copy tagger.new) }
 {
-    match core.copy(block, buffer) {
-        Answer::Done { place, .. } => {
+    one_entry_more();
+    match Direct::new(core, MEASURER).copy(block, buffer) {
+        Done::Done { place } => {
             tagger.copied(buffer);
             say_number(out, place, b" copy ", u64::from(block))?;
-            Ok(Went::Made)
+            Ok(StepEnd::Made)
         }
-        Answer::Again { .. } => unreachable!(),
-        Answer::Full { place } => {
-            say_total(out, b"full ", place)?;
-            Ok(Went::Full)
-        }
+        Done::Full { place } => Ok(StepEnd::Full { place }),
     }
 }
 
-fn end(core: &mut MemCore, tagger: &mut Tagger, out: &mut Vec<u8>) -> Result<Went, AllocError>
+fn end(core: &mut MemCore, tagger: &mut Tagger, out: &mut Vec<u8>) -> Result<StepEnd, AllocError>
     requires { IsTrue (may_come core.old.world (past_of core.old) AStep.End) }
-    ensures gone { (key nonce : List ℕ) → IsTagging core.old.world key nonce (past_of core.old) tagger.old
-        → IfOk result (HasGone key nonce core.old core.new AStep.End out.old.items out.new.items) }
+    ensures ran { (key nonce : List ℕ) → IsTagging core.old.world key nonce (past_of core.old) tagger.old
+        → IfOk result (StepRan key nonce core.old core.new AStep.End out.old.items out.new.items) }
     ensures tagging { (key nonce : List ℕ) → IsTagging core.old.world key nonce (past_of core.old) tagger.old
-        → IfOk result (IsTaggedBy core.old.world key nonce nonce (past_of core.old) (past_of core.new) tagger.new) }
+        → IfOk result (IsTaggedBy core.old.world key nonce nonce (past_of core.old) AStep.End tagger.new) }
 {
-    match core.act(0, Want::End) {
-        Answer::Done { place, .. } => {
+    one_entry_more();
+    match Direct::new(core, MEASURER).end() {
+        Done::Done { place } => {
             let tag = tagger.ended(place);
             say_bytes(out, place, b" end ", &tag)?;
-            Ok(Went::Made)
+            Ok(StepEnd::Made)
         }
-        Answer::Again { .. } => unreachable!(),
-        Answer::Full { place } => {
-            say_total(out, b"full ", place)?;
-            Ok(Went::Full)
-        }
+        Done::Full { place } => Ok(StepEnd::Full { place }),
     }
 }
 
-fn release(core: &mut MemCore, tagger: &Tagger, out: &mut Vec<u8>) -> Result<Went, AllocError>
+fn release(core: &mut MemCore, tagger: &Tagger, out: &mut Vec<u8>) -> Result<StepEnd, AllocError>
     requires { IsTrue (may_come core.old.world (past_of core.old) AStep.Release) }
     ensures { (key nonce : List ℕ) → IsTagging core.old.world key nonce (past_of core.old) tagger.now
-        → IfOk result (HasGone key nonce core.old core.new AStep.Release out.old.items out.new.items) }
+        → IfOk result (StepRan key nonce core.old core.new AStep.Release out.old.items out.new.items) }
 {
-    match core.act(0, Want::Release) {
-        Answer::Done { place, .. } => {
+    one_entry_more();
+    match Direct::new(core, MEASURER).release() {
+        Done::Done { place } => {
             let tag = tagger.released(place);
             say_bytes(out, place, b" release ", &tag)?;
-            Ok(Went::Made)
+            Ok(StepEnd::Made)
         }
-        Answer::Again { .. } => unreachable!(),
-        Answer::Full { place } => {
-            say_total(out, b"full ", place)?;
-            Ok(Went::Full)
-        }
+        Done::Full { place } => Ok(StepEnd::Full { place }),
     }
 }
 
@@ -221,14 +204,14 @@ fn take_step(
     buffer: &mut [u8],
     out: &mut Vec<u8>,
     step: &Step,
-) -> Result<Went, AllocError>
+) -> Result<StepEnd, AllocError>
     requires may { IsTrue (may_come core.old.world (past_of core.old) step.now) }
-    requires within { IsWithin step.now }
+    requires within { FitsWidth step.now }
     requires room { length buffer.old ≡ core.old.world.layout.size }
-    ensures gone { (key nonce : List ℕ) → IsTagging core.old.world key nonce (past_of core.old) tagger.old
-        → IfOk result (HasGone key nonce core.old core.new step.now out.old.items out.new.items) }
+    ensures ran { (key nonce : List ℕ) → IsTagging core.old.world key nonce (past_of core.old) tagger.old
+        → IfOk result (StepRan key nonce core.old core.new step.now out.old.items out.new.items) }
     ensures tagging { (key nonce : List ℕ) → IsTagging core.old.world key nonce (past_of core.old) tagger.old
-        → IfOk result (IsTaggedBy core.old.world key nonce (nonce_with nonce step.now) (past_of core.old) (past_of core.new) tagger.new) }
+        → IfOk result (IsTaggedBy core.old.world key nonce (nonce_with nonce step.now) (past_of core.old) step.now tagger.new) }
 {
     match *step {
         Step::Load { width, addr } => load(core, out, width, addr),
@@ -248,6 +231,24 @@ fn take_step(
     }
 }
 
+// What is left to print of a step that made no entry; true where the history is full.
+fn say_end(out: &mut Vec<u8>, end: StepEnd) -> Result<bool, AllocError>
+    ensures text { OnOk result (out.new.items ≡ out.old.items ++ end_text end) }
+    ensures full { IfOk result (λ full. full ≡ is_end_full end) }
+{
+    match end {
+        StepEnd::Made => Ok(false),
+        StepEnd::Waits { place } => {
+            say_total(out, b"again ", place)?;
+            Ok(false)
+        }
+        StepEnd::Full { place } => {
+            say_total(out, b"full ", place)?;
+            Ok(true)
+        }
+    }
+}
+
 // All steps of a script, from an empty history on; true where the history fills.
 fn take_steps(
     core: &mut MemCore,
@@ -259,16 +260,15 @@ fn take_steps(
     requires empty { core.old.history ≡ [] }
     requires begun { (nonce : List ℕ) → IsTagging core.old.world tagger.old.key.items nonce [] tagger.old }
     requires ordered { MayComeAll core.old.world [] steps.now }
-    requires within { All IsWithin steps.now }
+    requires within { All FitsWidth steps.now }
     requires room { length buffer.old ≡ core.old.world.layout.size }
     ensures text { OnOk result (out.new.items ≡ out.old.items ++ steps_printed core.old.world tagger.old.key.items [] [] steps.now) }
     ensures full { IfOk result (λ full. full ≡ meets_full core.old.world [] steps.now) }
 {
     for step in steps {
-        match take_step(core, tagger, buffer, out, step)? {
-            Went::Made => {}
-            Went::Waited => {}
-            Went::Full => return Ok(true),
+        let end = take_step(core, tagger, buffer, out, step)?;
+        if say_end(out, end)? {
+            return Ok(true);
         }
     }
     say_total(out, b"entries ", core.length())?;

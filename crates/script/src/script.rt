@@ -2,6 +2,7 @@
 
 ghost use Rattle.std.specs.Prelude.{[], ◌≡◌, ◌+◌, ◌<◌, ◌≤◌, ℕ, List, length, All, IsTrue};
 ghost use Rattle.script.specs.Grammar.{filled};
+ghost use Rattle.history.specs.Attested.{IsRanges};
 ghost use Rattle.history.specs.Layout.{Setting};
 ghost use Rattle.history.specs.declared.events.Entry.{Entry};
 ghost use Rattle.lock_plan.specs.Plans.{plan_after};
@@ -10,7 +11,7 @@ ghost use Rattle.script.specs.Measuring.{may_come, measured_with};
 use crate::{Refusal, Step};
 use block_memory::{Geometry, aligned};
 use chronicle::World;
-use lock_plan::{Plan, PlanStep};
+use lock_plan::{Plan, PlanStep, Ranges, order_gives_next_step};
 use std::alloc::{AllocError, Global};
 use std::marker::Model;
 
@@ -18,8 +19,7 @@ use std::marker::Model;
 #[derive(Drop)]
 pub struct Script {
     geometry: Geometry,
-    first: u32,
-    attested: u32,
+    ranges: Ranges,
     cap: u64,
     image: Vec<u8>,
     key: Vec<u8>,
@@ -34,70 +34,70 @@ impl Model for Script {
 
     ghost Value = { Program };
 
-    ghost use Rattle.script.specs.Reading.{program_in, IsReading};
+    ghost use Rattle.script.specs.Reading.{program_in, IsBuilt};
 
     ghost view = { program_in };
 
-    ghost invariant = { IsReading };
+    ghost invariant = { IsBuilt };
 }
 
 impl Script {
     ghost use Rattle.std.specs.Prelude.{◌≡◌, ◌+◌, ◌≤◌, ◌<◌, ℕ, IfOk, OnErr, IsErrOf, length, replicate, []};
     ghost use Rattle.std.specs.Prelude.{◌-◌};
+    ghost use Rattle.history.specs.Attested.{last_end};
     ghost use Rattle.history.specs.Layout.{Setting, byte_count, past_end};
     ghost use Rattle.std.specs.Prelude.{◌++◌, ◌∷◌, ◌↔◌, IsTrue, All};
-    ghost use Rattle.script.specs.Grammar.{filled, when};
+    ghost use Rattle.script.specs.Grammar.{filled};
+    ghost use Rattle.sequencing.specs.Options.{when};
     ghost use Rattle.script.specs.Measuring.{may_come, measured_after};
-    ghost use Rattle.script.specs.Gives.{GivesValue};
-    ghost use Rattle.script.specs.Attested.{IsScript, IsWithin, MayComeAll};
+    ghost use Rattle.script.specs.Gives.{GivesNext};
+    ghost use Rattle.script.specs.Attested.{IsScript, FitsWidth, MayComeAll};
 
     /// A script of no steps over a memory of zeros. Only want of memory refuses it.
     pub fn new(
         alloc: Global,
         geometry: Geometry,
         cap: u64,
-        first: u32,
-        attested: u32,
+        ranges: Ranges,
         key: Vec<u8>,
     ) -> Result<Script, AllocError>
-        requires some_attested { 1 ≤ attested }
-        requires attested_fit { first + attested ≤ geometry.blocks }
+        requires inside { last_end ranges ≤ geometry.blocks }
         requires some_entry { 1 ≤ cap }
         requires few_entries { cap ≤ 4000000 }
         ensures { IfOk result (λ script. script ≡ record {
-          setting = record { layout = geometry; first = first; attested = attested; image = replicate (byte_count geometry) 0; cap = cap };
+          setting = record { layout = geometry; ranges = ranges; image = replicate (byte_count geometry) 0; cap = cap };
           key = key.items;
           steps = [];
         }) }
     {
+        ranges.count();
         let image = vec![in alloc; 0; geometry.byte_count() as usize]?;
         Ok(Script {
             geometry,
-            first,
-            attested,
+            ranges,
             cap,
             image,
             key,
             steps: Vec::new(alloc),
-            plan: Plan::new(first, attested),
+            plan: Plan::new(ranges),
         })
     }
 
-    /// The step at the end, if it may come after those before it: an access has to fit and to be aligned, a
-    /// step of the measurer has to be the next of its pass. An `Err` leaves no script.
-    pub fn with_step(mut self, step: Step) -> Result<Script, Refusal>
-        requires { IsWithin step }
-        ensures { GivesValue result (when (may_come self.setting (measured_after self.setting [] self.steps) step)
-            (record self { steps = self.steps ++ step ∷ [] })) }
+    /// Puts the step at the end, if it may come after those before it: an access has to fit and to be aligned, a step
+    /// of the measurer has to be the next of its pass.
+    pub fn push_step(&mut self, step: Step) -> Result<(), Refusal>
+        requires { FitsWidth step }
+        ensures { GivesNext result (when (may_come self.old.setting (measured_after self.old.setting [] self.old.steps) step)
+            (record self.old { steps = self.old.steps ++ step ∷ [] })) self.new }
     {
         if !may_follow(&self.geometry, &self.plan, &step) {
             return Err(Refusal::Line);
         }
-        follow(&mut self.plan, &step);
         let Ok(()) = self.steps.push(step) else {
             return Err(Refusal::Memory);
         };
-        Ok(self)
+        follow(&mut self.plan, &step);
+        Ok(())
     }
 
     /// A script is in the grammar: a law, with nothing to run.
@@ -113,19 +113,18 @@ impl Script {
         ensures key { result.1.items ≡ self.key }
         ensures steps { result.2.items ≡ self.steps }
         ensures ordered { MayComeAll self.setting [] self.steps }
-        ensures within { All IsWithin self.steps }
+        ensures within { All FitsWidth self.steps }
     {
         let Script {
             geometry,
-            first,
-            attested,
+            ranges,
             cap,
             image,
             key,
             steps,
             plan: _,
         } = self;
-        let Some(world) = World::new(geometry, first, attested, image, cap) else {
+        let Some(world) = World::new(geometry, ranges, image, cap) else {
             unreachable!()
         };
         (world, key, steps)
@@ -182,7 +181,7 @@ fn fill(image: &mut Vec<u8>, offset: usize, bytes: &[u8])
 
 // Whether the step may come after the measuring steps that led to this plan.
 fn may_follow(geometry: &Geometry, plan: &Plan, step: &Step) -> bool
-    ensures { (w : Setting) (measured : List Entry) → w.layout ≡ geometry.now → plan.now ≡ plan_after w.first w.attested measured
+    ensures { (w : Setting) (measured : List Entry) → w.layout ≡ geometry.now → plan.now ≡ plan_after w.ranges measured
         → result ≡ may_come w measured step.now }
 {
     match *step {
@@ -198,10 +197,11 @@ fn may_follow(geometry: &Geometry, plan: &Plan, step: &Step) -> bool
 
 // The plan after a step that may come.
 fn follow(plan: &mut Plan, step: &Step)
-    requires { (w : Setting) × (measured : List Entry) × (plan.old ≡ plan_after w.first w.attested measured) × IsTrue (may_come w measured step.now) }
-    ensures { (w : Setting) (measured : List Entry) → plan.old ≡ plan_after w.first w.attested measured
-        → plan.new ≡ plan_after w.first w.attested (measured_with w measured step.now) }
+    requires { (w : Setting) × (measured : List Entry) × IsRanges w.ranges × (plan.old ≡ plan_after w.ranges measured) × IsTrue (may_come w measured step.now) }
+    ensures { (w : Setting) (measured : List Entry) → plan.old ≡ plan_after w.ranges measured
+        → plan.new ≡ plan_after w.ranges (measured_with w measured step.now) }
 {
+    order_gives_next_step();
     match *step {
         Step::Start { discipline, .. } => plan.start(discipline),
         Step::Copy => plan.copied(),

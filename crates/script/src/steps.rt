@@ -1,13 +1,13 @@
 //! The steps of a script, and the lines that say them.
 
 ghost use Rattle.std.specs.Prelude.{◌≡◌, ℕ, List, [], ◌∷◌, IfSome};
-ghost use Rattle.script.specs.Attested.{IsWithin};
-ghost use Rattle.text_forms.specs.Lines.{AreWords};
-ghost use Rattle.script.specs.Grammar.{width_of, short_step, load_step, store_step, start_step, step_of};
+ghost use Rattle.script.specs.Attested.{FitsWidth};
+ghost use Rattle.text_readers.specs.Lines.{AreWords};
+ghost use Rattle.script.specs.Grammar.{width_of, short_step, store_step, start_step, step_of};
 
 use hex::FromHex;
 use history::{Discipline, Width};
-use text_forms::{Words, decimal, hex_number};
+use text_readers::{Words, decimal, hex_number};
 
 /// One step: an access of application 1, or a step of the measurer.
 #[derive(Clone, Copy, Debug)]
@@ -56,7 +56,7 @@ fn width_in(word: &[u8]) -> Option<Width>
 
 fn short_step(verb: &[u8]) -> Option<Step>
     ensures value { result ≡ short_step verb.now }
-    ensures within { IfSome result IsWithin }
+    ensures within { IfSome result FitsWidth }
 {
     if verb == b"copy".as_slice() {
         return Some(Step::Copy);
@@ -73,20 +73,10 @@ fn short_step(verb: &[u8]) -> Option<Step>
     None
 }
 
-#[tactic(auto, unfolding(crate::specs::Grammar::load_step))]
-fn load_step(w: &[u8], addr: &[u8]) -> Option<Step>
-    ensures value { result ≡ load_step w.now addr.now }
-    ensures within { IfSome result IsWithin }
-{
-    let width = width_in(w)?;
-    let addr = hex_number(8, addr)?;
-    Some(Step::Load { width, addr })
-}
-
 #[tactic(auto, unfolding(crate::specs::Grammar::store_step))]
 fn store_step(w: &[u8], addr: &[u8], digits: &[u8]) -> Option<Step>
     ensures value { result ≡ store_step w.now addr.now digits.now }
-    ensures within { IfSome result IsWithin }
+    ensures within { IfSome result FitsWidth }
 {
     let width = width_in(w)?;
     let addr = hex_number(8, addr)?;
@@ -97,7 +87,7 @@ fn store_step(w: &[u8], addr: &[u8], digits: &[u8]) -> Option<Step>
 #[tactic(auto, unfolding(crate::specs::Grammar::start_step))]
 fn start_step(word: &[u8], digits: &[u8], hex: &[u8]) -> Option<Step>
     ensures value { result ≡ start_step word.now digits.now hex.now }
-    ensures within { IfSome result IsWithin }
+    ensures within { IfSome result FitsWidth }
 {
     let discipline = Discipline::from_word_bytes(word)?;
     let counter = decimal(digits)?;
@@ -112,7 +102,7 @@ fn start_step(word: &[u8], digits: &[u8], hex: &[u8]) -> Option<Step>
 /// The step that a line of these words says; None where it says none.
 pub fn step_in(words: &Words<'_>) -> Option<Step>
     ensures value { (list : List (List ℕ)) → AreWords words.now list → result ≡ step_of list }
-    ensures within { IfSome result IsWithin }
+    ensures within { IfSome result FitsWidth }
 {
     match *words {
         Words::One(verb) => short_step(verb),
@@ -124,17 +114,19 @@ pub fn step_in(words: &Words<'_>) -> Option<Step>
 
 fn three_words(verb: &[u8], w: &[u8], addr: &[u8]) -> Option<Step>
     ensures value { result ≡ step_of (verb.now ∷ w.now ∷ addr.now ∷ []) }
-    ensures within { IfSome result IsWithin }
+    ensures within { IfSome result FitsWidth }
 {
+    let width = width_in(w)?;
+    let addr = hex_number(8, addr)?;
     if verb == b"load".as_slice() {
-        return load_step(w, addr);
+        return Some(Step::Load { width, addr });
     }
     None
 }
 
 fn four_words(verb: &[u8], a: &[u8], b: &[u8], c: &[u8]) -> Option<Step>
     ensures value { result ≡ step_of (verb.now ∷ a.now ∷ b.now ∷ c.now ∷ []) }
-    ensures within { IfSome result IsWithin }
+    ensures within { IfSome result FitsWidth }
 {
     if verb == b"store".as_slice() {
         return store_step(a, b, c);

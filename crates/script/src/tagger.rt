@@ -1,10 +1,9 @@
 //! The tags of the last pass, digested as its blocks are copied.
 
-use challenge::Challenge;
 use chronicle::Shape;
 use history::Discipline;
 use hmac256::Hmac;
-use report::{head, note_head, tail};
+use report::{head_of, note_head, tail};
 use std::mem;
 
 /// What is kept of the last pass.
@@ -57,16 +56,8 @@ impl Tagger {
             → IsTagging w key old past self.old
             → IsTagging w key nonce.now (measurer (act.Start discipline counter) ∷ past) self.new }
     {
-        let nonce = *nonce;
-        let challenge = Challenge {
-            discipline,
-            lead: 0,
-            hold: 0,
-            counter,
-            nonce,
-        };
         let mut hmac = Hmac::new(&self.key);
-        hmac.update(&head(&challenge, shape));
+        hmac.update(head_of(discipline, counter, nonce, shape).as_slice());
         self.hmac = hmac;
         self.counter = counter;
         self.start = place;

@@ -6,7 +6,7 @@ use Rattle.chronicle.specs.Ports.{OthersFollow}
 use Rattle.mem_core.specs.declared.wants.Want.{Want}
 use Rattle.mem_core.specs.declared.wants.Answer.{Answer}
 use Rattle.mem_core.specs.Cores.{Core}
-use Rattle.mem_core.specs.Wants.{HasAnswered, HasCopied}
+use Rattle.mem_core.specs.Wants.{HasAnswered, HasAnsweredCopy}
 use Rattle.turn_cell.specs.Cells.{Token}
 
 -- the core of a world with this history
@@ -23,4 +23,4 @@ pub record TakesTurn (before after : Token) (want : Want) (answer : Answer) : Ty
 pub record TakesCopy (before after : Token) (block : ℕ) (old new : List ℕ) (answer : Answer) : Type 0 where
   pub found : List Entry
   pub others : OthersFollow before.low before.high before.seen found
-  pub answered : HasCopied (core_of before.cell.world found) (core_of before.cell.world after.seen) block old new answer
+  pub answered : HasAnsweredCopy (core_of before.cell.world found) (core_of before.cell.world after.seen) block old new answer

@@ -37,9 +37,9 @@ impl SharedMem {
     ghost use Rattle.chronicle.specs.Ports as port;
     ghost use Rattle.chronicle.specs.Ports.{HasRead, HasStepped, HasStored, IsMeasurer, OthersFollow, ReadsWithin, entry_by};
     ghost use Rattle.mem_core.specs.Cores.{Core};
-    ghost use Rattle.mem_core.specs.Wants.{AnswersWithin, StoresWithin, act_of, has_to_wait, value_read, width_of};
+    ghost use Rattle.mem_core.specs.Wants.{AnswersWithin, StoresWithin, act_wanted, has_to_wait, value_read, width_answered};
     ghost use Rattle.shared_mem.specs.Turns.{TakesCopy, TakesTurn};
-    ghost use Rattle.turn_cell.specs.Cells.{AllBelow, longer, token};
+    ghost use Rattle.turn_cell.specs.Cells.{AllBelow, longer_list, token};
 
     /// The core, shared by the actors from 0 up to below `actors`, and the pass for all of them. Only want of
     /// memory refuses it.
@@ -76,7 +76,7 @@ impl SharedMem {
         requires left { left.cell ≡ self.now }
         requires right { right.cell ≡ self.now }
         requires meet { left.high ≡ right.low }
-        ensures pass { result ≡ record left { seen = longer left.seen right.seen; high = right.high } }
+        ensures pass { result ≡ record left { seen = longer_list left.seen right.seen; high = right.high } }
         ensures left { OthersFollow left.low left.high left.seen result.seen }
         ensures right { OthersFollow right.low right.high right.seen result.seen }
     {
@@ -99,10 +99,10 @@ impl SharedMem {
     fn act<R: Wait>(&self, rt: &R, pass: Pass, want: Want) -> (Pass, Answer)
         requires cell { pass.cell ≡ self.now }
         requires one { pass.high ≡ pass.low + 1 }
-        requires actor { IsTrue (actor_fits (entry_by pass.low (act_of want 0))) }
-        requires range { IsTrue (in_range pass.cell.world (act_of want 0)) }
+        requires actor { IsTrue (actor_fits (entry_by pass.low (act_wanted want 0))) }
+        requires range { IsTrue (in_range pass.cell.world (act_wanted want 0)) }
         requires small { StoresWithin want }
-        requires order { IsTrue (in_order pass.cell.world (pass_after (reverse pass.seen)) (act_of want 0)) }
+        requires order { IsTrue (in_order pass.cell.world (pass_after (reverse pass.seen)) (act_wanted want 0)) }
         ensures same { result.0 ≡ record pass { seen = result.0.seen } }
         ensures setting { IsSetting pass.cell.world }
         ensures legal { IsLegal pass.cell.world result.0.seen }
@@ -122,17 +122,17 @@ impl SharedMem {
     pub(crate) fn read<R: Wait>(&self, rt: &R, pass: Pass, want: Want) -> (Pass, Read)
         requires cell { pass.cell ≡ self.now }
         requires one { pass.high ≡ pass.low + 1 }
-        requires actor { IsTrue (actor_fits (entry_by pass.low (act_of want 0))) }
-        requires range { IsTrue (in_range pass.cell.world (act_of want 0)) }
+        requires actor { IsTrue (actor_fits (entry_by pass.low (act_wanted want 0))) }
+        requires range { IsTrue (in_range pass.cell.world (act_wanted want 0)) }
         requires small { StoresWithin want }
-        requires order { IsTrue (in_order pass.cell.world (pass_after (reverse pass.seen)) (act_of want 0)) }
+        requires order { IsTrue (in_order pass.cell.world (pass_after (reverse pass.seen)) (act_wanted want 0)) }
         requires free { (core : Core) → has_to_wait core want ≡ false }
         ensures same { result.0 ≡ record pass { seen = result.0.seen } }
         ensures setting { IsSetting pass.cell.world }
         ensures legal { IsLegal pass.cell.world result.0.seen }
         ensures answer { HasRead pass.cell.world pass.low pass.high pass.seen result.0.seen
-            (act_of want) result.1 }
-        ensures small { ReadsWithin (width_of want) result.1 }
+            (act_wanted want) result.1 }
+        ensures small { ReadsWithin (width_answered want) result.1 }
     {
         let (pass, answer) = self.act(rt, pass, want);
         match answer {
@@ -174,17 +174,17 @@ impl SharedMem {
     pub(crate) fn step<R: Wait>(&self, rt: &R, pass: Pass, want: Want) -> (Pass, Step)
         requires cell { pass.cell ≡ self.now }
         requires one { pass.high ≡ pass.low + 1 }
-        requires actor { IsTrue (actor_fits (entry_by pass.low (act_of want 0))) }
-        requires range { IsTrue (in_range pass.cell.world (act_of want 0)) }
+        requires actor { IsTrue (actor_fits (entry_by pass.low (act_wanted want 0))) }
+        requires range { IsTrue (in_range pass.cell.world (act_wanted want 0)) }
         requires small { StoresWithin want }
-        requires order { IsTrue (in_order pass.cell.world (pass_after (reverse pass.seen)) (act_of want 0)) }
+        requires order { IsTrue (in_order pass.cell.world (pass_after (reverse pass.seen)) (act_wanted want 0)) }
         requires free { (core : Core) → has_to_wait core want ≡ false }
         requires reads_nothing { (core : Core) → value_read core want ≡ 0 }
         ensures same { result.0 ≡ record pass { seen = result.0.seen } }
         ensures setting { IsSetting pass.cell.world }
         ensures legal { IsLegal pass.cell.world result.0.seen }
         ensures answer { HasStepped pass.cell.world pass.low pass.high pass.seen result.0.seen
-            (act_of want 0) result.1 }
+            (act_wanted want 0) result.1 }
     {
         let (pass, answer) = self.act(rt, pass, want);
         match answer {
@@ -230,7 +230,7 @@ impl SharedMem {
         ensures legal { IsLegal pass.cell.world result.0.seen }
         ensures answer { HasStepped pass.cell.world pass.low pass.high pass.seen result.0.seen
             (act.Copy block) result.1 }
-        ensures bytes { port.HasCopied pass.cell.world result.0.seen block into.old into.new result.1 }
+        ensures bytes { port.FillsBuffer pass.cell.world result.0.seen block into.old into.new result.1 }
     {
         let (pass, answer) = self.take_copy(rt, pass, block, into);
         match answer {
@@ -245,7 +245,11 @@ impl SharedMem {
         ensures shape { result ≡ shape_of self.now.world }
         ensures setting { IsSetting self.now.world }
     {
-        self.shape
+        Shape {
+            base: self.shape.base,
+            size: self.shape.size,
+            ranges: self.shape.ranges,
+        }
     }
 }
 

@@ -10,8 +10,8 @@ use std::marker::Model;
 use std::sync::Wait;
 use turn_cell::Pass;
 
-/// The port of one actor over a shared core. Each call but `shape` is one turn, and may wait for it. Clauses see
-/// the port as its pass, a `Token` of turn_cell.
+/// The port of one actor over a shared core. Each call but `shape` and `actor` is one turn, and may wait for it.
+/// Clauses see the port as its pass, a `Token` of turn_cell.
 #[derive(Drop)]
 pub struct Port<'a, R: Wait> {
     memory: &'a SharedMem,
@@ -22,7 +22,7 @@ pub struct Port<'a, R: Wait> {
 impl<'a, R: Wait> Model for Port<'a, R> {
     ghost use Rattle.std.specs.Prelude.{◌≡◌, ◌+◌, Some};
     ghost use Rattle.turn_cell.specs.Cells.{Token};
-    ghost use Rattle.shared_mem.specs.Held.{pass_in};
+    ghost use Rattle.shared_mem.specs.PassHeld.{pass_in};
 
     ghost Value = { Token };
 
@@ -76,6 +76,13 @@ impl<R: Wait> Viewed for Port<'_, R> {
 }
 
 impl<R: Wait> MemPort for Port<'_, R> {
+    fn actor(&self) -> u32 {
+        match &self.pass {
+            Some(pass) => pass.low(),
+            None => unreachable!(),
+        }
+    }
+
     fn fetch(&mut self, addr: u32) -> Read {
         let pass = self.pass.take().unwrap();
         let (pass, read) = self.memory.read(self.rt, pass, Want::Fetch { addr });

@@ -1,15 +1,16 @@
 //! Two ports on one thread, and on two.
 
-ghost use Rattle.std.specs.Prelude.{◌≡◌, [], IfOk, IfSome, IsTrue, length};
+ghost use Rattle.std.specs.Prelude.{◌≡◌, [], ◌∷◌, IfOk, IfSome, IsTrue, length};
 ghost use Rattle.std.specs.Thread.{IsSync};
 ghost use Rattle.history.specs.declared.events.Width.TheVariants.{Byte, Word};
+ghost use Rattle.history.specs.declared.ranges.Range.{Range};
 ghost use Rattle.history.specs.Layout.{fits};
 ghost use Rattle.chronicle.specs.Ports.{IsApplication, IsMeasurer, OthersFollow};
 
 use super::*;
 use chronicle::{
-    Act, BlockPort, Discipline, Entry, Geometry, MemPort, Read, Step, Stored, Width, World,
-    answers_move_the_plan, order_by_plan,
+    Act, BlockPort, Discipline, Entry, Geometry, MemPort, Range, Ranges, Read, Step, Stored, Width,
+    World, answers_move_the_plan, order_by_plan,
 };
 use mem_core::MemCore;
 use std::alloc::{AllocError, Global};
@@ -17,10 +18,10 @@ use std::sync::Wait;
 use std::test::Fail;
 use std::thread::{Threads, join};
 
-/// The answers of a pass over four blocks, and of a store into the first of them in the pass and after it.
+/// The answers of a pass over one block, and of a store into it in the pass and after it.
 #[derive(Clone, Copy)]
 struct Row {
-    steps: [Step; 6],
+    steps: [Step; 3],
     stores: [Stored; 2],
 }
 
@@ -33,7 +34,8 @@ fn play<P: BlockPort, Q: MemPort>(
     requires measurer { IsMeasurer (P.low measurer.old) (P.high measurer.old) }
     requires application { IsApplication (Q.low application.old) (Q.high application.old) }
     requires none { P.seen measurer.old ≡ [] }
-    requires all { ((P.world measurer.old).first ≡ 0) × ((P.world measurer.old).attested ≡ 4) }
+    requires one { let block : Range = record { first = 0; attested = 1 } in
+        (P.world measurer.old).ranges ≡ block ∷ [] }
     requires room { length into.old ≡ (P.world measurer.old).layout.size }
     requires fits { IsTrue (fits (Q.world application.old).layout 2147483648 Byte) }
     ensures measurer { (P.owner measurer.new ≡ P.owner measurer.old)
@@ -49,26 +51,14 @@ fn play<P: BlockPort, Q: MemPort>(
     let Step::Done { .. } = started else {
         return None;
     };
-    let zero = measurer.copy(0, into);
-    let Step::Done { .. } = zero else {
-        return None;
-    };
-    let one = measurer.copy(1, into);
-    let Step::Done { .. } = one else {
-        return None;
-    };
-    let two = measurer.copy(2, into);
-    let Step::Done { .. } = two else {
-        return None;
-    };
-    let three = measurer.copy(3, into);
-    let Step::Done { .. } = three else {
+    let copied = measurer.copy(0, into);
+    let Step::Done { .. } = copied else {
         return None;
     };
     let ended = measurer.end();
     let second = application.store(0x8000_0000, Width::Byte, 1);
     Some(Row {
-        steps: [started, zero, one, two, three, ended],
+        steps: [started, copied, ended],
         stores: [first, second],
     })
 }
@@ -83,7 +73,8 @@ fn play_shared<R: Wait>(
     requires cell { pass.cell ≡ memory }
     requires two { (pass.low ≡ 0) × (pass.high ≡ 2) × (memory.actors ≡ 2) }
     requires none { pass.seen ≡ [] }
-    requires all { (memory.world.first ≡ 0) × (memory.world.attested ≡ 4) }
+    requires one { let block : Range = record { first = 0; attested = 1 } in
+        memory.world.ranges ≡ block ∷ [] }
     requires room { length into.old ≡ memory.world.layout.size }
     requires fits { IsTrue (fits memory.world.layout 2147483648 Byte) }
     ensures { result.1.world ≡ memory.world }
@@ -187,9 +178,10 @@ fn tick_and_fetch<R: Threads + Wait + Sync>(
     (ticks, fetches, core)
 }
 
-/// A memory of four blocks of 16 zero bytes from 0x80000000 on, all attested.
+/// A memory of four blocks of 16 zero bytes from 0x80000000 on, of which the first is attested.
 fn zeros(alloc: Global, cap: u64) -> Result<Option<World>, AllocError>
-    ensures { IfOk result (λ made. IfSome made (λ w. (w.first ≡ 0) × (w.attested ≡ 4)
+    ensures { let block : Range = record { first = 0; attested = 1 } in
+        IfOk result (λ made. IfSome made (λ w. (w.ranges ≡ block ∷ [])
         × (w.layout.size ≡ 16) × IsTrue (fits w.layout 2147483648 Byte)
         × IsTrue (fits w.layout 2147483648 Word))) }
 {
@@ -200,13 +192,20 @@ fn zeros(alloc: Global, cap: u64) -> Result<Option<World>, AllocError>
         return Ok(None);
     }
     let image = vec![in alloc; 0u8; 64]?;
-    match World::new(geometry, 0, 4, image, cap) {
+    let block = Range {
+        first: 0,
+        attested: 1,
+    };
+    let Some(ranges) = Ranges::new(&[block]) else {
+        return Ok(None);
+    };
+    match World::new(geometry, ranges, image, cap) {
         Some(world) => Ok(Some(world)),
         None => Ok(None),
     }
 }
 
-/// A measurement of four blocks beside an application whose store has to wait for its end.
+/// A measurement of one block beside an application whose store has to wait for its end.
 #[test]
 fn two_ports_on_one_thread(rt: HostRuntime) -> Result<(), Fail> {
     let alloc = rt.alloc();
@@ -221,13 +220,10 @@ fn two_ports_on_one_thread(rt: HostRuntime) -> Result<(), Fail> {
     let (row, core) = play_shared(&rt, memory, pass, &mut buffer);
     let row = row.ok_or("the history filled")?;
     let done = |place| Step::Done { place };
-    assert_eq!(rt;
-        row.steps,
-        [done(1), done(2), done(3), done(4), done(5), done(6)]
-    );
+    assert_eq!(rt; row.steps, [done(1), done(2), done(3)]);
     assert_eq!(rt;
         row.stores,
-        [Stored::Again { place: 1 }, Stored::Done { place: 7 }]
+        [Stored::Again { place: 1 }, Stored::Done { place: 4 }]
     );
     assert_eq!(rt; buffer, [0u8; 16]);
     let entry = |actor, act| Entry { actor, act };
@@ -243,9 +239,6 @@ fn two_ports_on_one_thread(rt: HostRuntime) -> Result<(), Fail> {
                 }
             ),
             entry(0, Act::Copy { block: 0 }),
-            entry(0, Act::Copy { block: 1 }),
-            entry(0, Act::Copy { block: 2 }),
-            entry(0, Act::Copy { block: 3 }),
             entry(0, Act::End),
             entry(
                 1,

@@ -5,7 +5,7 @@ use Rattle.std.proofs.lemmas.Bool.{cases_lt, lt-ltb, le-ltb}
 use Rattle.std.proofs.lemmas.List.Elements.{All-nil, All-cons, All-head, All-tail, All-append, All-weaker}
 use Rattle.history.specs.declared.events.Entry.{Entry}
 use Rattle.chronicle.specs.Ports.{IsBeyond, OthersFollow}
-use Rattle.turn_cell.specs.Cells.{AllBelow, AddsOne, AddsAtMostOne, longer}
+use Rattle.turn_cell.specs.Cells.{AllBelow, AddsOne, AddsAtMostOne, longer_list}
 
 -- of two lists that begin a third, the shorter begins the longer
 pub goes_on : (a rest b more : List Entry) → a ++ rest ≡ b ++ more → length a ≤ length b → (between : List Entry) × (b ≡ a ++ between) × (rest ≡ between ++ more)
@@ -83,7 +83,7 @@ first_longer low middle high a b log f g h =
       whole = record { rest = f.rest; whole = f.whole; beyond = all_beyond low middle high f.rest f.beyond (rest_of (IsBeyond middle high) t.0 f.rest apart) };
     }
 
-pub longer_of : (low middle high : ℕ) (a b log : List Entry) → OthersFollow low middle a log → OthersFollow middle high b log → Longer low middle high a b log (longer a b)
+pub longer_of : (low middle high : ℕ) (a b log : List Entry) → OthersFollow low middle a log → OthersFollow middle high b log → Longer low middle high a b log (longer_list a b)
 longer_of low middle high a b log f g =
     let P : Bool → Type 0 = λ t. Longer low middle high a b log (if t then b else a) in
     ⊎_elim (λ (lt : length a < length b). subst P (sym (lt-ltb (length a) (length b) lt)) (second_longer low middle high a b log f g (omega arith)))

@@ -29,7 +29,7 @@ token cell history from upto = record { cell = cell; seen = history; low = from;
 
 -- what stands where no world and no pass is meant
 abbrev pub no_world : Setting
-no_world = record { layout = record { base = 0; size = 0; blocks = 0 }; first = 0; attested = 0; image = []; cap = 0 }
+no_world = record { layout = record { base = 0; size = 0; blocks = 0 }; ranges = []; image = []; cap = 0 }
 
 abbrev pub no_pass : Token
 no_pass = record { cell = record { id = record { words = 0; slots = 0; views_name = 0; atom = 0; block = 0; offset = 0; slot_names = [] }; actors = 0; world = no_world }; seen = []; low = 0; high = 0 }
@@ -39,23 +39,19 @@ abbrev pub AllBelow : ℕ → List Entry → Type 0
 AllBelow actors history = All (λ entry. entry.actor < actors) history
 
 -- the entry's actor is in the range
-abbrev pub IsWithin : ℕ → ℕ → Entry → Type 0
-IsWithin low high entry = (low ≤ entry.actor) × (entry.actor < high)
+abbrev pub ActorIsWithin : ℕ → ℕ → Entry → Type 0
+ActorIsWithin low high entry = (low ≤ entry.actor) × (entry.actor < high)
 
 -- one entry came, by an actor of the range
 pub record AddsOne (low high : ℕ) (old new : List Entry) : Type 0 where
   pub entry : Entry
   pub whole : new ≡ old ++ entry ∷ []
-  pub within : IsWithin low high entry
+  pub within : ActorIsWithin low high entry
 
 -- none came, or one
 abbrev pub AddsAtMostOne : ℕ → ℕ → List Entry → List Entry → Type 0
 AddsAtMostOne low high old new = (new ≡ old) ⊎ AddsOne low high old new
 
--- the list begins with an earlier one
-abbrev pub GoesOn : List Entry → List Entry → Type 0
-GoesOn old new = (rest : List Entry) × (new ≡ old ++ rest)
-
 -- the longer of two lists
-abbrev pub longer : List Entry → List Entry → List Entry
-longer a b = if nat_lt (length a) (length b) then b else a
+abbrev pub longer_list : List Entry → List Entry → List Entry
+longer_list a b = if nat_lt (length a) (length b) then b else a

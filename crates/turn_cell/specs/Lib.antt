@@ -1,5 +1,5 @@
 pub mod Cells
-pub mod Sights
+pub mod SeatViews
 pub mod Turning
 pub mod Steps
 pub mod Lending

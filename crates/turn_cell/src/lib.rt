@@ -17,8 +17,8 @@
 mod cells;
 mod passes;
 mod plays;
-mod sights;
 mod turns;
+mod views;
 
 pub use cells::{Refused, TurnCell};
 pub use passes::Pass;

@@ -1,6 +1,6 @@
 //! A pass to a cell.
 
-use crate::sights::Sight;
+use crate::views::SeatView;
 use atomic_table::Badge;
 use std::marker::Model;
 
@@ -11,23 +11,23 @@ use std::marker::Model;
 /// A pass that is let go is lost: its cell can't be closed any more.
 #[derive(Drop)]
 pub struct Pass {
-    pub(crate) badge: Badge<Sight>,
+    pub(crate) badge: Badge<SeatView>,
     pub(crate) low: u32,
     pub(crate) high: u32,
 }
 
 impl Model for Pass {
     ghost use Rattle.std.specs.Prelude.{◌≡◌, ◌<◌, [], ◌∷◌};
-    ghost use Rattle.turn_cell.specs.declared.sights.Stage.TheVariants.{Outside};
+    ghost use Rattle.turn_cell.specs.declared.views.TurnStage.TheVariants.{Outside};
     ghost use Rattle.turn_cell.specs.Cells.{Token};
-    ghost use Rattle.turn_cell.specs.Sights.{sight_of, token_of};
+    ghost use Rattle.turn_cell.specs.SeatViews.{seat_view_of, token_of};
 
     ghost Value = { Token };
 
     ghost view = { λ p. token_of p.badge.table_id p.badge.views };
 
     ghost invariant = { λ p. let t = token_of p.badge.table_id p.badge.views in
-        (p.badge.views ≡ sight_of t Outside ∷ []) × (p.low ≡ t.low) × (p.high ≡ t.high) × (t.low < t.high) };
+        (p.badge.views ≡ seat_view_of t Outside ∷ []) × (p.low ≡ t.low) × (p.high ≡ t.high) × (t.low < t.high) };
 }
 
 impl Pass {

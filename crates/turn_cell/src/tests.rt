@@ -1,17 +1,20 @@
-//! A diary behind a cell: turns on one thread, and on two.
+//! A diary behind a cell: turns on one thread, and on nine.
 
 ghost use Rattle.std.specs.Prelude.{◌≡◌, ◌<◌, ◌∷◌, [], ◌++◌, IfOk, MatchBool};
 ghost use Rattle.std.specs.Thread.{IsSync};
 ghost use Rattle.history.specs.declared.events.Act.TheVariants as act;
 ghost use Rattle.chronicle.specs.Ports.{OthersFollow, entry_by};
-ghost use Rattle.turn_cell.specs.Cells.{GoesOn};
 
 use super::*;
-use chronicle::{Act, Chronicled, Entry, Geometry, World};
+use chronicle::{Act, Chronicled, Entry, Geometry, Range, Ranges, World};
 use std::alloc::{AllocError, Global};
+use std::hint::spin_loop;
 use std::sync::Wait;
 use std::test::Fail;
 use std::thread::{Threads, join};
+
+/// How many turns each of nine threads makes.
+const TURNS: u32 = 200;
 
 /// A list of entries of a world. It needn't be legal.
 #[derive(Drop)]
@@ -46,32 +49,65 @@ impl Diary {
     }
 }
 
-/// One turn, in which the first actor of the pass writes an entry.
-fn note_once<R: Wait>(rt: &R, cell: &TurnCell<Diary>, pass: Pass) -> Pass
+/// Lets time go by.
+fn wait_for(pauses: u32) {
+    for _ in 0..pauses {
+        spin_loop();
+    }
+}
+
+/// One turn, in which the first actor of the pass writes an entry and then holds the turn for so many pauses.
+fn note_once<R: Wait>(rt: &R, cell: &TurnCell<Diary>, pass: Pass, pauses: u32) -> Pass
     requires { pass.cell ≡ cell.now }
-    ensures same { (result.cell ≡ pass.cell) × (result.low ≡ pass.low) × (result.high ≡ pass.high) }
-    ensures seen { GoesOn pass.seen result.seen }
+    ensures { (result.cell ≡ pass.cell) × (result.low ≡ pass.low) × (result.high ≡ pass.high) }
 {
     let actor = pass.low();
     let mut turn = cell.enter(rt, pass);
     let _noted = turn.value().note(actor);
+    wait_for(pauses);
     cell.leave(turn)
 }
 
-/// Many turns.
-fn note_often<R: Wait>(rt: &R, cell: &TurnCell<Diary>, pass: Pass, turns: u32) -> Pass
+/// Many turns. Actor 0 holds each for longer than others wait before they sleep.
+fn note_often<R: Wait>(rt: &R, cell: &TurnCell<Diary>, pass: Pass) -> Pass
     requires { pass.cell ≡ cell.now }
-    ensures same { (result.cell ≡ pass.cell) × (result.low ≡ pass.low) × (result.high ≡ pass.high) }
-    ensures seen { GoesOn pass.seen result.seen }
+    ensures { (result.cell ≡ pass.cell) × (result.low ≡ pass.low) × (result.high ≡ pass.high) }
 {
+    let pauses = if pass.low() == 0 { 20_000 } else { 0 };
     let mut pass = pass;
-    for _ in 0..turns {
-        pass = note_once(rt, cell, pass);
+    for _ in 0..TURNS {
+        pass = note_once(rt, cell, pass, pauses);
     }
     pass
 }
 
-/// The end of two threads' turns: what each had seen begins the diary.
+/// The turns of all actors of a range, each in a thread of its own.
+fn note_all<R: Threads + Wait + Sync>(rt: &R, cell: &TurnCell<Diary>, pass: Pass) -> Pass
+    requires sync { IsSync R.row }
+    requires cell { pass.cell ≡ cell.now }
+    requires some { pass.low < pass.high }
+    ensures { (result.cell ≡ pass.cell) × (result.low ≡ pass.low) × (result.high ≡ pass.high) }
+{
+    let count = pass.high() - pass.low();
+    if count == 1 {
+        return note_often(rt, cell, pass);
+    }
+    let middle = pass.low() + count / 2;
+    let mut first = pass;
+    let second = cell.split(&mut first, middle);
+    let lower = move || -> Pass
+        requires { IsSync R.row × (first.cell ≡ cell.now) × (first.low < first.high) }
+        ensures { (result.cell ≡ first.cell) × (result.low ≡ first.low) × (result.high ≡ first.high) }
+    { note_all(rt, cell, first) };
+    let upper = move || -> Pass
+        requires { IsSync R.row × (second.cell ≡ cell.now) × (second.low < second.high) }
+        ensures { (result.cell ≡ second.cell) × (result.low ≡ second.low) × (result.high ≡ second.high) }
+    { note_all(rt, cell, second) };
+    let (left, right) = join(rt, lower, upper);
+    cell.join(left, right)
+}
+
+/// The end of two passes' turns: what each had seen begins the diary.
 fn close_both(cell: TurnCell<Diary>, left: Pass, right: Pass) -> Diary
     requires left { (left.cell ≡ cell) × (left.low ≡ 0) }
     requires right { (right.cell ≡ cell) × (right.low ≡ left.high) × (right.high ≡ cell.actors) }
@@ -82,41 +118,18 @@ fn close_both(cell: TurnCell<Diary>, left: Pass, right: Pass) -> Diary
     cell.close(whole)
 }
 
-/// Two threads write at once.
-fn note_by_two<R: Threads + Wait + Sync>(
-    rt: &R,
-    cell: TurnCell<Diary>,
-    pass: Pass,
-    turns: u32,
-) -> Diary
-    requires cell { pass.cell ≡ cell }
-    requires two { (pass.low ≡ 0) × (pass.high ≡ 2) × (cell.actors ≡ 2) }
-    ensures { GoesOn pass.seen result.entries.items }
-{
-    let mut first = pass;
-    let second = cell.split(&mut first, 1);
-    let shared = &cell;
-    let lower = move || -> Pass
-        requires { IsSync R.row × (first.cell ≡ shared.now) }
-        ensures { (result.cell ≡ first.cell) × (result.low ≡ first.low) × (result.high ≡ first.high)
-            × GoesOn first.seen result.seen }
-    { note_often(rt, shared, first, turns) };
-    let upper = move || -> Pass
-        requires { IsSync R.row × (second.cell ≡ shared.now) }
-        ensures { (result.cell ≡ second.cell) × (result.low ≡ second.low) × (result.high ≡ second.high)
-            × GoesOn second.seen result.seen }
-    { note_often(rt, shared, second, turns) };
-    let (left, right) = join(rt, lower, upper);
-    close_both(cell, left, right)
-}
-
 /// An empty diary of a small world.
 fn empty_diary(rt: &impl Alloc<A = Global>) -> Result<Diary, Fail>
     ensures { IfOk result (λ diary. diary.entries.items ≡ []) }
 {
     let geometry = Geometry::new(0x1000, 16, 1).ok_or("no geometry")?;
     let image = vec![in rt.alloc(); 0u8; 16]?;
-    let world = World::new(geometry, 0, 1, image, 4_000_000).ok_or("no world")?;
+    let block = Range {
+        first: 0,
+        attested: 1,
+    };
+    let ranges = Ranges::new(&[block]).ok_or("no ranges")?;
+    let world = World::new(geometry, ranges, image, 4_000_000).ok_or("no world")?;
     let entries = Vec::new(rt.alloc());
     Ok(Diary { world, entries })
 }
@@ -139,16 +152,16 @@ fn turns_follow_one_another(rt: HostRuntime) -> Result<(), Fail> {
     assert_eq!(rt; (second.low(), second.high()), (1, 2));
     assert_eq!(rt; (third.low(), third.high()), (2, 3));
 
-    let third = note_once(&rt, &cell, third);
-    let first = note_once(&rt, &cell, first);
+    let third = note_once(&rt, &cell, third, 0);
+    let first = note_once(&rt, &cell, first, 0);
     let turn = cell.enter(&rt, second);
     assert_eq!(rt; turn.peek().length(), 2);
     let second = cell.leave(turn);
-    let third = note_once(&rt, &cell, third);
+    let third = note_once(&rt, &cell, third, 0);
 
     let upper = cell.join(second, third);
     assert_eq!(rt; (upper.low(), upper.high()), (1, 3));
-    let upper = note_once(&rt, &cell, upper);
+    let upper = note_once(&rt, &cell, upper, 0);
     let diary = close_both(cell, first, upper);
     assert_eq!(rt;
         actors_of(alloc, &diary)?.as_slice(),
@@ -157,15 +170,18 @@ fn turns_follow_one_another(rt: HostRuntime) -> Result<(), Fail> {
     Ok(())
 }
 
+/// Nine threads of which one holds its turn again and again, so that the others sleep.
 #[test]
-fn two_threads_write_one_diary(rt: HostRuntime) -> Result<(), Fail> {
+fn nine_threads_write_one_diary(rt: HostRuntime) -> Result<(), Fail> {
     let alloc = rt.alloc();
-    let Ok((cell, whole)) = TurnCell::new(alloc, empty_diary(&rt)?, 2) else {
+    let Ok((cell, whole)) = TurnCell::new(alloc, empty_diary(&rt)?, 9) else {
         return Err("no memory".into());
     };
-    let diary = note_by_two(&rt, cell, whole, 1000);
-    let actors = actors_of(alloc, &diary)?;
-    assert_eq!(rt; actors.len(), 2000);
-    assert_eq!(rt; actors.iter().filter(|actor| **actor == 0).count(), 1000);
+    let whole = note_all(&rt, &cell, whole);
+    let diary = cell.close(whole);
+    for actor in 0..9u32 {
+        let own = diary.entries.iter().filter(|entry| entry.actor == actor);
+        assert_eq!(rt; own.count(), TURNS as usize);
+    }
     Ok(())
 }

@@ -1,6 +1,6 @@
 //! A turn at a cell.
 
-use crate::sights::Sight;
+use crate::views::SeatView;
 use atomic_table::Seat;
 use std::marker::Model;
 
@@ -8,8 +8,8 @@ use std::marker::Model;
 /// `TurnCell::leave`. Clauses see it as an `InTurn` of `specs/Cells.antt`: the pass that entered, with all
 /// that was seen then, and the value.
 pub struct Turn<T> {
-    pub(crate) seat: Seat<Option<T>, Sight>,
-    pub(crate) value: T,
+    pub(crate) seat: Seat<Option<Box<T>>, SeatView>,
+    pub(crate) value: Box<T>,
     pub(crate) count: u64,
     pub(crate) low: u32,
     pub(crate) high: u32,
@@ -17,16 +17,16 @@ pub struct Turn<T> {
 
 impl<T> Model for Turn<T> {
     ghost use Rattle.std.specs.Prelude.{◌≡◌, ◌<◌, [], ◌∷◌, None, length};
-    ghost use Rattle.turn_cell.specs.declared.sights.Stage.TheVariants.{Loaded};
+    ghost use Rattle.turn_cell.specs.declared.views.TurnStage.TheVariants.{Loaded};
     ghost use Rattle.turn_cell.specs.Cells.{InTurn};
-    ghost use Rattle.turn_cell.specs.Sights.{sight_of, token_of};
+    ghost use Rattle.turn_cell.specs.SeatViews.{seat_view_of, token_of};
 
     ghost Value = { InTurn T };
 
-    ghost view = { λ t. record { pass = token_of t.seat.table_id (t.seat.me.0 ∷ []); value = t.value } };
+    ghost view = { λ t. record { pass = token_of t.seat.table_id (t.seat.me.0 ∷ []); value = t.value.value } };
 
     ghost invariant = { λ t. let pass = token_of t.seat.table_id (t.seat.me.0 ∷ []) in
-        (t.seat.me ≡ (sight_of pass Loaded, (0, None) ∷ [])) × (t.count ≡ length pass.seen)
+        (t.seat.me ≡ (seat_view_of pass Loaded, (0, None) ∷ [])) × (t.count ≡ length pass.seen)
         × (t.low ≡ pass.low) × (t.high ≡ pass.high) × (pass.low < pass.high) };
 }
 
@@ -40,13 +40,13 @@ impl<T> Turn<T> {
         ensures* writes_back { sem 𝓛 (lends_value T.row self.entry result) }
         ensures value { result.now ≡ self.old.value }
     {
-        &mut self.value
+        self.value.as_mut()
     }
 
     /// The value, to be read.
     pub fn peek(&self) -> &T
         ensures { result.now ≡ self.now.value }
     {
-        &self.value
+        self.value.as_ref()
     }
 }

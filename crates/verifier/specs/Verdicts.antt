@@ -1,6 +1,7 @@
 -- The verdicts on a report and on a release note: the first of these cases.
-use Rattle.std.specs.Prelude.{ℕ, Bool, ◌&&◌, not, ◌==◌, nat_le, List, bytes_eq, Option, Some, None, if◌then◌else◌}
+use Rattle.std.specs.Prelude.{ℕ, Bool, true, false, ◌&&◌, not, ◌==◌, nat_le, List, [], ◌∷◌, bytes_eq, Option, Some, None, if◌then◌else◌}
 use Rattle.history.specs.declared.events.Discipline.{Discipline}
+use Rattle.history.specs.declared.ranges.Range.{Range}
 use Rattle.history.specs.Names.{code_of}
 use Rattle.history.specs.Pass.{is_extended}
 use Rattle.challenge.specs.declared.Challenge.{Challenge}
@@ -29,8 +30,13 @@ pub record Standing : Type 0 where
 abbrev pub same_discipline : Discipline → Discipline → Bool
 same_discipline a b = code_of a == code_of b
 
+abbrev pub same_ranges : List Range → List Range → Bool
+same_ranges [] [] = true
+same_ranges (r ∷ more) (s ∷ rest) = (r.first == s.first) && (r.attested == s.attested) && same_ranges more rest
+same_ranges _ _ = false
+
 abbrev pub same_shape : Shape → Shape → Bool
-same_shape a b = (a.base == b.base) && (a.size == b.size) && (a.first == b.first) && (a.attested == b.attested)
+same_shape a b = (a.base == b.base) && (a.size == b.size) && same_ranges a.ranges b.ranges
 
 -- the report says that it answers this challenge
 abbrev pub answers : Challenge → Report → Bool
@@ -51,13 +57,13 @@ verdict_on v images report =
     else verdict_by (first_match v.key report images)
 
 -- the verdict on bytes by what they are read as
-abbrev pub judged : Standing → List Image → Option Report → Verdict
-judged v images None = verdict.Malformed
-judged v images (Some report) = verdict_on v images report
+abbrev pub verdict_on_reading : Standing → List Image → Option Report → Verdict
+verdict_on_reading v images None = verdict.Malformed
+verdict_on_reading v images (Some report) = verdict_on v images report
 
 -- the verdict on the bytes of a report
 unfoldable pub verdict_of : Standing → List Image → List ℕ → Verdict
-verdict_of v images bytes = judged v images (report_in bytes)
+verdict_of v images bytes = verdict_on_reading v images (report_in bytes)
 
 -- the counter of the last accepted report, after this verdict: an accepted report has the expected counter
 abbrev pub last_after : Standing → Verdict → ℕ
@@ -85,10 +91,10 @@ note_verdict_on key report n =
     else note.Accepted n.release
 
 -- the verdict on bytes by what they are read as
-abbrev pub note_judged : List ℕ → Report → Option Note → NoteVerdict
-note_judged key report None = note.Malformed
-note_judged key report (Some n) = note_verdict_on key report n
+abbrev pub note_verdict_on_reading : List ℕ → Report → Option Note → NoteVerdict
+note_verdict_on_reading key report None = note.Malformed
+note_verdict_on_reading key report (Some n) = note_verdict_on key report n
 
 -- the verdict on the bytes of a note
 unfoldable pub note_verdict_of : List ℕ → Report → List ℕ → NoteVerdict
-note_verdict_of key report bytes = note_judged key report (note_in bytes)
+note_verdict_of key report bytes = note_verdict_on_reading key report (note_in bytes)

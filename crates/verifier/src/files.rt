@@ -1,13 +1,14 @@
 //! Verifier files.
 
 ghost use Rattle.std.specs.Prelude.{◌≡◌};
-ghost use Rattle.file_rules.specs.Rules.{Reads};
-ghost use Rattle.verifier.specs.Files.{plan_of, verifier_file};
+ghost use Rattle.config_rules.specs.Rules.{AnswersByRules};
+ghost use Rattle.verifier.specs.Files.{verifier_plan, verifier_file};
 
 use att_base::DeviceFault;
 use block_memory::Geometry;
-use file_rules::{Common, name_at, names_at, read_common, read_document};
+use config_rules::{Common, name_at, names_at, read_common, read_document};
 use listed::{Items, Text};
+use lock_plan::Ranges;
 use std::alloc::Global;
 
 /// The most images of a verifier.
@@ -18,10 +19,8 @@ const MOST_IMAGES: usize = 64;
 pub struct VerifierPlan {
     /// Where memory lies.
     pub geometry: Geometry,
-    /// The first attested block, from 0.
-    pub first: u32,
-    /// How many blocks are attested, at least 1.
-    pub attested: u32,
+    /// The attested blocks, all of them in memory.
+    pub ranges: Ranges,
     /// The name of the key's file.
     pub key: Text,
     /// The greatest counter that was accepted so far.
@@ -33,14 +32,13 @@ pub struct VerifierPlan {
 }
 
 // The plan of what both kinds of file say and the rest.
-fn plan_of(common: Common, challenge: Text, images: Items<Text>) -> VerifierPlan
-    ensures { result ≡ plan_of common challenge images }
+fn verifier_plan(common: Common, challenge: Text, images: Items<Text>) -> VerifierPlan
+    ensures { result ≡ verifier_plan common challenge images }
 {
     let Common { region, key, last } = common;
     VerifierPlan {
         geometry: region.geometry,
-        first: region.first,
-        attested: region.attested,
+        ranges: region.ranges,
         key,
         last,
         challenge,
@@ -48,12 +46,12 @@ fn plan_of(common: Common, challenge: Text, images: Items<Text>) -> VerifierPlan
     }
 }
 
-/// Reads a verifier file, a TOML document. Keys that no rule names are passed over. A refusal gives the number
-/// of the first rule that fails: 1 to 8 are those of `file_rules`, 9 is `challenge`, a file name, and 10 is
+/// AnswersByRules a verifier file, a TOML document. Keys that no rule names are passed over. A refusal gives the number
+/// of the first rule that fails: 1 to 8 are those of `config_rules`, 9 is `challenge`, a file name, and 10 is
 /// `images`, an array of 1 to 64 file names.
 #[tactic(auto, unfolding(crate::specs::Files::verifier_file))]
 pub fn read_verifier(alloc: Global, bytes: &[u8]) -> Result<VerifierPlan, DeviceFault>
-    ensures { Reads (verifier_file bytes.now) result }
+    ensures { AnswersByRules (verifier_file bytes.now) result }
 {
     let table = match read_document(alloc, bytes) {
         Ok(table) => table,
@@ -75,5 +73,5 @@ pub fn read_verifier(alloc: Global, bytes: &[u8]) -> Result<VerifierPlan, Device
     let Ok(challenge) = Text::from_str(alloc, challenge) else {
         return Err(DeviceFault::Memory);
     };
-    Ok(plan_of(common, challenge, images))
+    Ok(verifier_plan(common, challenge, images))
 }

@@ -1,14 +1,13 @@
 //! The verdicts.
 
-ghost use Rattle.std.specs.Prelude.{◌≡◌};
-ghost use Rattle.report.specs.Tags.{note_tag};
-ghost use Rattle.verifier.specs.Verdicts.{has_note_tag, is_on, note_verdict_on, same_shape};
+ghost use Rattle.std.specs.Prelude.{◌≡◌, ◌==◌, ◌&&◌};
+ghost use Rattle.verifier.specs.Verdicts.{has_note_tag, is_on, note_verdict_on, same_ranges, same_shape};
 
 use challenge::Challenge;
 use chronicle::Shape;
-use hmac256::Hmac;
 use image_set::ImageSet;
-use report::{Note, Report, note_head, read_note, read_report};
+use lock_plan::{Range, Ranges};
+use report::{Note, Report, note_tag, read_note, read_report};
 use std::marker::Model;
 
 /// The verdict on a report: the first of these cases.
@@ -50,11 +49,33 @@ pub enum NoteVerdict {
     },
 }
 
+// Both ranges have the same blocks.
+fn same_range(a: Range, b: Range) -> bool
+    ensures { result ≡ ((a.first == b.first) && (a.attested == b.attested)) }
+{
+    a.first == b.first && a.attested == b.attested
+}
+
+// The same blocks are attested.
+fn same_ranges(a: &Ranges, b: &Ranges) -> bool
+    ensures { result ≡ same_ranges a.now b.now }
+{
+    if a.count() != b.count() {
+        return false;
+    }
+    for k in 0..a.count() {
+        if !same_range(a.range(k), b.range(k)) {
+            return false;
+        }
+    }
+    true
+}
+
 // The two shapes are the same.
 fn same_shape(a: &Shape, b: &Shape) -> bool
     ensures { result ≡ same_shape a.now b.now }
 {
-    a.base == b.base && a.size == b.size && a.first == b.first && a.attested == b.attested
+    a.base == b.base && a.size == b.size && same_ranges(&a.ranges, &b.ranges)
 }
 
 // The note is on the release of what the report is on.
@@ -67,22 +88,19 @@ fn is_on(report: &Report, note: &Note) -> bool
         && note.end == report.end
 }
 
-// The tag that the key gives for the note and the report's tag.
-#[tactic(auto, unfolding(report::specs::Tags::note_tag))]
-fn expected_note_tag(key: &[u8], report: &Report, note: &Note) -> [u8; 32]
-    ensures { result ≡ note_tag key.now note.now.counter note.now.start note.now.end note.now.release report.now.tag }
-{
-    let mut hmac = Hmac::new(key);
-    hmac.update(&note_head(note.counter, note.start, note.end, note.release));
-    hmac.update(&report.tag);
-    hmac.finish()
-}
-
-// The note's tag is that one.
+// The note's tag is the one that the key gives for the note and the report's tag.
 fn has_note_tag(key: &[u8], report: &Report, note: &Note) -> bool
     ensures { result ≡ has_note_tag key.now report.now note.now }
 {
-    expected_note_tag(key, report, note) == note.tag
+    let tag = note_tag(
+        key,
+        note.counter,
+        note.start,
+        note.end,
+        note.release,
+        &report.tag,
+    );
+    tag == note.tag
 }
 
 // The verdict on a note.

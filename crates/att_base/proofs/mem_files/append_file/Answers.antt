@@ -1,16 +1,16 @@
 use Rattle.std.proofs.Common.{◌≡◌, length, vec_len, ◌∙◌, arith}
-use Rattle.att_base.specs.FilesInMemory.{place_of}
+use Rattle.att_base.specs.FilesInMemory.{file_index}
 use Rattle.att_base.proofs.FileLemmas.{add_there, add_new}
 use Rattle.att_base.proofs.mem_files.append_file.Goals as goal
 
 pub returns-then-place-len-clause-ok : goal.returns-then-place-len-clause-ok
 returns-then-place-len-clause-ok c =
-    let found : c.place_of-place.result ≡ place_of c.args.files.now.items c.args.name.now = rw c.deref.ensures.value at c.place_of-place.ensures in
+    let found : c.file_index-place.result ≡ file_index c.args.files.now.items c.args.name.now = rw c.deref.ensures.value at c.file_index-place.ensures in
     let count : length c.args.files.now.items ≡ vec_len c.args.files.now = rw c.deref.ensures.value at c.deref.ensures.len in
     add_there _ _ _ _ c.index_mut.result.now _ found (omega (arith, count)) c.index_mut.ensures.value c.in_ok-append.ensures.ok
 
 pub returns-clause-ok : goal.returns-clause-ok
 returns-clause-ok c =
-    let found : c.place_of-place.result ≡ place_of c.args.files.now.items c.args.name.now = rw c.deref.ensures.value at c.place_of-place.ensures in
+    let found : c.file_index-place.result ≡ file_index c.args.files.now.items c.args.name.now = rw c.deref.ensures.value at c.file_index-place.ensures in
     let count : length c.args.files.now.items ≡ vec_len c.args.files.now = rw c.deref.ensures.value at c.deref.ensures.len in
-    c.in_ok-push.ensures.items ∙ add_new c.args.files.now.items c.args.name.now c.args.piece.now c.place_of-place.result c.in_ok-file.file found (omega (arith, count)) c.in_ok-file.ensures
+    c.in_ok-push.ensures.items ∙ add_new c.args.files.now.items c.args.name.now c.args.piece.now c.file_index-place.result c.in_ok-file.file found (omega (arith, count)) c.in_ok-file.ensures

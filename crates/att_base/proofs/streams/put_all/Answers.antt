@@ -7,5 +7,5 @@ pub writing-preserved : goal.writing-preserved
 writing-preserved g c = record {
   within = search rules;
   grown = put_after-more _ _ _ c.args.piece.now c.writing.at c.in_ok-at.field-0 c.writing.invariant.grown (rw take_rest at c.in_ok-at.ensures.bytes);
-  later = search rules;
+  quiet = search rules;
 }

@@ -1,5 +1,5 @@
 use Rattle.std.proofs.Common.{List, subst}
-use Rattle.program.specs.declared.Segment.{Segment}
+use Rattle.executable.specs.declared.Segment.{Segment}
 use Rattle.elf32.specs.Written.{contents_start, elf_bytes}
 use Rattle.elf32.proofs.ReadBack.{IsFileOf, here_described, is_written}
 use Rattle.elf32.proofs.laws.fields_by_place.Goals as goal

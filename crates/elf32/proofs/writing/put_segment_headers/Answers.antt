@@ -1,9 +1,9 @@
 use Rattle.std.proofs.Common.{◌≡◌, ℕ, ◌+◌, List, [], ◌∷◌, ◌++◌, length, take, sym, ap, ◌∙◌, add-zero, zero-add, arith}
 use Rattle.std.proofs.lemmas.List.{append-nil, take_more}
 use Rattle.std.proofs.lemmas.List.Sums.{sum_by-append}
-use Rattle.program.specs.declared.Segment.{Segment}
+use Rattle.executable.specs.declared.Segment.{Segment}
 use Rattle.elf32.specs.Written.{segment_headers}
-use Rattle.program.specs.Writable.{total_size}
+use Rattle.executable.specs.Writable.{total_size}
 use Rattle.elf32.proofs.SegmentHeaders.{headers_none, headers_more}
 use Rattle.elf32.proofs.writing.put_segment_headers.Goals as goal
 

@@ -1,6 +1,6 @@
 use Rattle.std.proofs.Common.{◌≡◌, ◌+◌, ◌++◌, take}
 use Rattle.elf32.specs.Written.{segment_headers}
-use Rattle.program.specs.Writable.{total_size}
+use Rattle.executable.specs.Writable.{total_size}
 use Rattle.elf32.proofs.writing.put_segment_headers.Given as goal
 
 -- the headers so far are appended, and the next segment's bytes stand after those before it

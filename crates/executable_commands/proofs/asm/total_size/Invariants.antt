@@ -1,5 +1,5 @@
 use Rattle.std.proofs.Common.{◌≡◌, ◌+◌, drop}
-use Rattle.program.specs.Writable.{total_size}
+use Rattle.executable.specs.Writable.{total_size}
 use Rattle.executable_commands.proofs.asm.total_size.Given as goal
 
 abbrev pub invariant-loop-segment : goal.invariant-loop-segment

@@ -1,20 +1,19 @@
+use Rattle.std.proofs.Common.{List, ℕ}
 use Rattle.verifier.specs.Files.{verifier_file}
-use Rattle.plans.specs.Reading.{ReadFile}
-use Rattle.plans.specs.Steps.{exactly}
-use Rattle.plans.proofs.Binds.{stopped, goes_on, blames_nobody}
-use Rattle.message_commands.specs.Plans.{VerifierIn, verifier_told}
+use Rattle.command_plans.specs.Reading.{input_limit, ReadFile}
+use Rattle.command_plans.specs.Steps.{exactly}
+use Rattle.command_plans.proofs.Binds.{stops, then_known}
+use Rattle.message_commands.specs.Plans.{VerifierIn, checked_verifier}
 use Rattle.message_commands.proofs.reading.read_plan.Goals as goal
 
-pub returns-in-Ok-clause-gives : goal.returns-in-Ok-clause-gives
+pub returns-in_err-text-clause-reads : goal.returns-in_err-text-clause-reads
 unfolding VerifierIn
-returns-in-Ok-clause-gives g c =
-    goes_on (ReadFile (g.F.Files.held c.args.files.now) c.args.name.now) (λ text. exactly (verifier_told c.args.name.now (verifier_file text))) (λ plan. plan) c.in-Ok.text.items c.verifier_told.result c.in-Ok.ensures.read
-    (rw c.deref.ensures.value at c.verifier_told.ensures.gives)
+returns-in_err-text-clause-reads g c =
+    stops (ReadFile input_limit c.args.name.now) (λ (text : List ℕ) files. exactly (checked_verifier c.args.name.now (verifier_file text))) (λ plan. plan) c.from_residual.result c.in_err-text.field-0.0
+    (g.F.Files.shows c.args.files.now) (g.F.Files.shows c.read_file.new.files) c.from_residual.ensures.1 c.in_err-text.ensures.reads
 
-pub returns-in-Ok-clause-blamed : goal.returns-in-Ok-clause-blamed
-returns-in-Ok-clause-blamed g c = blames_nobody c.verifier_told.result _ _ _ c.verifier_told.ensures.quiet
-
-pub returns-in-Err-clause-gives : goal.returns-in-Err-clause-gives
+pub returns-clause-reads : goal.returns-clause-reads
 unfolding VerifierIn
-returns-in-Err-clause-gives g c =
-    stopped (ReadFile (g.F.Files.held c.args.files.now) c.args.name.now) (λ text. exactly (verifier_told c.args.name.now (verifier_file text))) c.in-Err.stop c.in-Err.ensures.read
+returns-clause-reads g c =
+    then_known (ReadFile input_limit c.args.name.now) (λ (text : List ℕ). checked_verifier c.args.name.now (verifier_file text)) c.in_ok-text.text.items (λ plan. plan) c.checked_verifier.result (g.F.Files.shows c.args.files.now)
+    (g.F.Files.shows c.read_file.new.files) c.in_ok-text.ensures.reads (rw c.deref.ensures.value at c.checked_verifier.ensures.gives)

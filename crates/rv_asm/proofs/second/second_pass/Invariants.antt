@@ -1,11 +1,8 @@
-use Rattle.std.proofs.Common.{◌≡◌, ◌+◌, ◌≤◌, length}
-use Rattle.asm_lines.specs.Lines.{lines_of}
-use Rattle.rv_asm.specs.Second.{nothing, output_of, second_lines}
+use Rattle.std.proofs.Common.{◌≡◌, drop}
+use Rattle.rv_asm.specs.Second.{nothing, output_of}
 use Rattle.rv_asm.specs.Labels.{addresses_in}
+use Rattle.rv_asm.specs.Kept.{kept_orders, second_kept}
 use Rattle.rv_asm.proofs.second.second_pass.Given as goal
 
-abbrev pub invariant-loop-line : goal.invariant-loop-line
-invariant-loop-line l = (second_lines (addresses_in l.labels) (output_of l.output) l.number (lines_of l.rest) ≡ second_lines (addresses_in l.labels) nothing 1 (lines_of l.text)) × (1 ≤ l.number) × (l.number + length l.rest ≤ length l.text + 1)
-
-abbrev pub decreases-loop-line : goal.decreases-loop-line
-decreases-loop-line l = length l.rest
+abbrev pub invariant-loop-item : goal.invariant-loop-item
+invariant-loop-item l = second_kept (addresses_in l.labels) (output_of l.output) (kept_orders (drop l.item-index l.kept)) ≡ second_kept (addresses_in l.labels) nothing (kept_orders l.kept)

@@ -1,5 +1,5 @@
 use Rattle.std.proofs.Common.{◌≡◌, ap, refl, subst, ◌∙◌, Some, Contains, arith}
-use Rattle.att_base.specs.Files.{Held}
+use Rattle.att_base.specs.Files.{Contents}
 use Rattle.att_base.specs.FilesInMemory.{FilesState, held_in}
 use Rattle.att_base.proofs.FileLemmas.{front_added, held_in-put_file}
 use Rattle.att_base.proofs.mem_files.MemFilesFiles.append.Goals as goal
@@ -17,4 +17,4 @@ returns-then-begin-clause-listed c = λ _.
 pub returns-clause-ok : goal.returns-clause-ok
 returns-clause-ok c =
     let held : c.self.inside.files.items ≡ c.args.self.now.files = ap (λ (s : FilesState). s.files) c.self.view_is in
-    rw (← held) (ap (λ (h : Held). Some h) (ap held_in c.in-Ok-append_file.ensures.ok ∙ held_in-put_file _ _ _))
+    rw (← held) (ap (λ (h : Contents). Some h) (ap held_in c.in-Ok-append_file.ensures.ok ∙ held_in-put_file _ _ _))

@@ -9,8 +9,8 @@ invariant_of-self c =
     record {
       setting = record {
         layout = old.setting.layout;
-        some_attested = old.setting.some_attested;
-        attested_fit = old.setting.attested_fit;
+        ranges = old.setting.ranges;
+        inside = old.setting.inside;
         image_length = c.fill.ensures.len ∙ old.setting.image_length;
         image_bytes = c.fill.ensures.bytes;
         some_entry = old.setting.some_entry;

@@ -1,0 +1,66 @@
+-- For private functions alone: what preparing a command answers beside its plan.
+use Rattle.std.specs.Prelude.{◌≡◌, ℕ, List, [], Option, Some, Result, Ok, Err, IfOk}
+use Rattle.std.specs.Option.{ForSome, option_copied}
+use Rattle.att_base.specs.Streams.{TakesFront}
+use Rattle.att_base.specs.Files.{IsName, FilesView}
+use Rattle.challenge.specs.Challenges.{IsChallenge}
+use Rattle.command_plans.specs.declared.output.Stop.{Stop}
+use Rattle.command_plans.specs.Written.{Written}
+use Rattle.command_plans.specs.Reading.{input_limit}
+use Rattle.command_plans.specs.Answered.{came_of, Reads, CountsInput, LeavesInput}
+use Rattle.script.specs.Programs.{Program}
+use Rattle.script.specs.Grammar.{program_of}
+use Rattle.script.specs.Attested.{IsAttested, IsReleased}
+use Rattle.attest_top.specs.declared.command.Kind.{Kind}
+use Rattle.attest_top.specs.declared.command.Kind.TheVariants.{Script, Asm, Show, Challenge, Verify}
+use Rattle.attest_top.specs.Lines.{Form, script, asm, show, challenge, verify}
+use Rattle.attest_top.specs.Moments.{StreamView}
+use Rattle.attest_top.specs.Plans.{script_output, script_plan, command_plan}
+
+-- the form that the code's command is of
+abbrev pub form_meant : Kind → Form
+form_meant Script = script
+form_meant (Asm text elf) = asm text.now elf.now
+form_meant (Show elf) = show elf.now
+form_meant (Challenge key asked out) = challenge key.now asked out.now
+form_meant (Verify verifier report note) = verify verifier.now report.now (option_copied note)
+
+-- the names of a command are names of files, and the challenge that it asks for is valid
+abbrev pub HasFileNames : Kind → Type 0
+HasFileNames Script = Unit {0}
+HasFileNames (Asm text elf) = IsName text.now × IsName elf.now
+HasFileNames (Show elf) = IsName elf.now
+HasFileNames (Challenge key asked out) = IsName key.now × IsName out.now × IsChallenge asked
+HasFileNames (Verify verifier report note) = IsName verifier.now × IsName report.now × ForSome note (λ name. IsName name.now)
+
+-- what was prepared writes no file
+abbrev pub PreparesNoFiles : Result Written Stop → Type 0
+PreparesNoFiles (Ok w) = w.files ≡ []
+PreparesNoFiles (Err stop) = Unit {0}
+
+-- this is what the script of a text writes, and what its tags are worth
+pub record IsScriptOutput (text : List ℕ) (w : Written) : Type 0 where
+  pub program : Program
+  pub said : program_of text ≡ Ok program
+  pub is : w ≡ script_output program
+  pub attested : IsAttested program
+  pub released : IsReleased program
+
+-- the same of what was left of standard input
+pub record ScriptFound (input : Option (List ℕ)) (w : Written) : Type 0 where
+  pub text : List ℕ
+  pub left : (known : List ℕ) → input ≡ Some known → known ≡ text
+  pub tells : IsScriptOutput text w
+
+-- what preparing a script does with standard input
+pub record ReadsScript (result : Result Written Stop) (old new : StreamView) : Type 0 where
+  pub comes : script_plan old.bytes [] (came_of (λ w. w) result)
+  pub counted : CountsInput result old.faults new.faults
+  pub left : LeavesInput input_limit result old.bytes new.bytes
+  pub front : TakesFront old.bytes new.bytes
+  pub found : IfOk result (λ w. ScriptFound old.bytes w)
+
+-- what preparing a command does with files and with standard input
+abbrev pub Prepares : Form → Result Written Stop → FilesView → FilesView → StreamView → StreamView → Type 0
+Prepares script result old new input left = (new ≡ old) × ReadsScript result input left
+Prepares form result old new input left = Reads (λ w. w) (λ held. command_plan form held input.bytes) result old new × (left ≡ input)

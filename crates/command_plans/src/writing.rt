@@ -1,0 +1,71 @@
+//! Writing what was prepared: standard output and files, in parts.
+
+ghost use Rattle.std.specs.Prelude.{◌≡◌, ◌≤◌, ℕ, List, [], ◌++◌, OnOk, OnErr};
+ghost use Rattle.att_base.specs.Faults.{FaultCountRose};
+ghost use Rattle.att_base.specs.Streams.{put_after, AppendsFront};
+ghost use Rattle.att_base.specs.Files.{IsName, put_under, PutsFront, CountsWrite};
+ghost use Rattle.command_plans.specs.Written.{joined, rest_bytes};
+
+use crate::parts::{FileParts, Parts};
+use att_base::{Failed, FileFault, Files, Sink, put_all, write_whole};
+use std::alloc::Global;
+
+/// The most bytes that go to standard output in one piece, of what is told in parts.
+const PIECE_LEN: usize = 4096;
+
+/// Appends all that the parts tell, piece by piece. After `Failed` a front of it was appended. It takes no memory.
+pub fn put_parts<K: Sink, P: Parts>(sink: &mut K, parts: &mut P) -> Result<(), Failed>
+    ensures ok { OnOk result (K.held sink.new ≡ put_after (K.held sink.old) (P.told parts.old)) }
+    ensures err { OnErr result (AppendsFront (K.held sink.old) (K.held sink.new) (P.told parts.old)) }
+    ensures cause { OnErr result (FaultCountRose (K.faults sink.old) (K.faults sink.new)) }
+    ensures quiet { OnOk result (K.faults sink.new ≡ K.faults sink.old) }
+    ensures later { K.faults sink.old ≤ K.faults sink.new }
+{
+    let mut piece = [0; PIECE_LEN];
+    'telling: loop {
+        let count = parts.next(&mut piece);
+        if count == 0 {
+            return Ok(());
+        }
+        put_all(sink, &piece[..count])?;
+    }
+}
+
+/// Appends all that the rest tells, where there is one.
+pub fn put_rest<K: Sink, P: Parts>(sink: &mut K, rest: &mut Option<P>) -> Result<(), Failed>
+    ensures ok { OnOk result (K.held sink.new ≡ put_after (K.held sink.old) (rest_bytes P.told rest.old)) }
+    ensures err { OnErr result (AppendsFront (K.held sink.old) (K.held sink.new) (rest_bytes P.told rest.old)) }
+    ensures cause { OnErr result (FaultCountRose (K.faults sink.old) (K.faults sink.new)) }
+    ensures quiet { OnOk result (K.faults sink.new ≡ K.faults sink.old) }
+    ensures later { K.faults sink.old ≤ K.faults sink.new }
+{
+    match rest {
+        None => Ok(()),
+        Some(parts) => put_parts(sink, parts),
+    }
+}
+
+/// Writes a file: the name is cleared, its first bytes are appended in one call, unless there are none, and then each
+/// part in a call of its own. After `Failed` and `Memory` the file is as it was, or has a front of the bytes.
+pub fn write_parts<F: Files, B: FileParts>(
+    alloc: Global,
+    files: &mut F,
+    name: &str,
+    first: &[u8],
+    parts: &B,
+) -> Result<(), FileFault>
+    requires { IsName name.now }
+    ensures ok { OnOk result ((F.shows files.new).held ≡ put_under (F.shows files.old).held name.now (first.now ++ joined B.parts parts.now)) }
+    ensures err { OnErr result (PutsFront (F.shows files.old).held (F.shows files.new).held name.now (first.now ++ joined B.parts parts.now)) }
+    ensures asked { (F.shows files.new).asked ≡ (F.shows files.old).asked }
+    ensures counted { CountsWrite result (F.shows files.old).faults (F.shows files.new).faults }
+{
+    write_whole(alloc, files, name, first)?;
+    for k in 0..parts.count() {
+        let Ok(part) = parts.part(alloc, k) else {
+            return Err(FileFault::Memory);
+        };
+        files.append(alloc, name, &part)?;
+    }
+    Ok(())
+}

@@ -1,0 +1,4 @@
+pub mod Documents
+pub mod ItemsSoFar
+pub mod Layouts
+pub mod RangeItems

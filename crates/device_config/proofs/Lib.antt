@@ -1,0 +1,2 @@
+pub mod ItemsSoFar
+pub mod PlanFacts

@@ -1,0 +1,5 @@
+pub mod Apart
+pub mod Fields
+pub mod Indexes
+pub mod PassLocks
+pub mod WordBits

@@ -1,5 +1,0 @@
-pub mod Comes
-pub mod Lines
-pub mod Reading
-pub mod Steps
-pub mod Written

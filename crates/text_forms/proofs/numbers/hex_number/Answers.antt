@@ -1,9 +1,0 @@
-use Rattle.std.proofs.Common.{arith, sym}
-use Rattle.text_forms.proofs.Digits.{number_of-hex, number_of-word}
-use Rattle.text_forms.proofs.numbers.hex_number.Goals as goal
-
-pub overflow_cast-result : goal.overflow_cast-result
-overflow_cast-result c = omega (arith, number_of-word c.args.digits.now c.in_ok-value.value (sym c.in_ok-value.ensures) (omega arith))
-
-pub returns-clause-below : goal.returns-clause-below
-returns-clause-below c = rw c.if-digits-count.false at (number_of-hex c.args.digits.now c.in_ok-value.value (sym c.in_ok-value.ensures))
