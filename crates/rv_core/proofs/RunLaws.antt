@@ -189,26 +189,30 @@ leaves core (Some kept) (Fetched word) left r = absurd (not_fetched _ word (kept
 leaves core (Some kept) (Loaded value) left r = omega arith
 leaves core (Some kept) Stored left r = omega arith
 
--- a core that was told is at the end of a run with one entry more
-pub told_run : (now new : Waiting) (reply : Reply) → Replies (core_want now) reply → new ≡ told_of now reply
-    → (start : AppProgram) (entries : List Entry) (fuel left actor : ℕ) (act : Act)
+-- a core that was told has gone on from where its program stood
+pub told_step : (now new : Waiting) (reply : Reply) → Replies (core_want now) reply → new ≡ told_of now reply → (fuel left : ℕ) (act : Act)
     → act_asked (core_want now) (reply_value reply) ≡ Some act → fuel ≡ left + fuel_of reply
-    → IsBegunRun start entries (standing now fuel)
-    → IsBegunRun start (entries ++ record { actor = actor; act = act } ∷ []) (standing new left)
-told_run now new reply replies is_told start entries fuel left actor act is_act is_fuel begun =
+    → goes_on (standing now fuel) act ≡ Some (standing new left)
+told_step now new reply replies is_told fuel left act is_act is_fuel =
     let m = made (core_want now) reply act left replies is_act in
     let asked : is_asked (next_access (standing now fuel)) act ≡ true = ap (λ f. is_asked (with_fuel f (core_want now)) act) is_fuel ∙ m.asked in
     let step : goes_on (standing now fuel) act ≡ Some (standing (answered now.fetched (value_of_act act) now.core) (fuel_after now.fetched fuel)) = rw asked refl in
     let same : answered now.fetched (value_of_act act) now.core ≡ new = ap (λ v. answered now.fetched v now.core) m.read ∙ sym is_told in
     let fuels : fuel_after now.fetched fuel ≡ left = ap (fuel_after now.fetched) is_fuel ∙ leaves now.core now.fetched reply left replies in
-    record {
-      read =
-          grows start entries (record { actor = actor; act = act })
-          ∙ ap (option_and_then (λ at. goes_on at act)) begun.read
-          ∙ step
-          ∙ ap (λ w. Some (standing w (fuel_after now.fetched fuel))) same
-          ∙ ap (λ f. Some (standing new f)) fuels;
-    }
+    step ∙ ap (λ w. Some (standing w (fuel_after now.fetched fuel))) same ∙ ap (λ f. Some (standing new f)) fuels
+
+-- and is at the end of a run with one entry more
+pub told_run : (now new : Waiting) (reply : Reply) → Replies (core_want now) reply → new ≡ told_of now reply
+    → (start : AppProgram) (entries : List Entry) (fuel left actor : ℕ) (act : Act)
+    → act_asked (core_want now) (reply_value reply) ≡ Some act → fuel ≡ left + fuel_of reply
+    → IsBegunRun start entries (standing now fuel)
+    → IsBegunRun start (entries ++ record { actor = actor; act = act } ∷ []) (standing new left)
+told_run now new reply replies is_told start entries fuel left actor act is_act is_fuel begun = record {
+  read =
+      grows start entries (record { actor = actor; act = act })
+      ∙ ap (option_and_then (λ at. goes_on at act)) begun.read
+      ∙ told_step now new reply replies is_told fuel left act is_act is_fuel;
+}
 
 -- what comes after an instruction is a fetch or the end
 fetch_data : (room : Bool) (pc : ℕ) (ending : Ending) → data_accesses (cond room (WantFetch pc) (Ended ending)) ≡ 0

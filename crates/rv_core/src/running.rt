@@ -129,7 +129,7 @@ impl Core {
     ghost use Rattle.rv_core.specs.Effects.{effect_of, next};
     ghost use Rattle.rv_core.specs.Kept.{fetched_in, KeepsPhase};
     ghost use Rattle.rv_core.specs.Runs.{CoreState, Waiting, waiting, AppProgram, ProgramState, standing, started, core_want, a7, asked_by_call, after_print, with_fetched, IsBegunRun};
-    ghost use Rattle.rv_core.specs.Waits.{told_of, IsProperWant, data_accesses, Replies, reply_value, act_asked, fuel_of};
+    ghost use Rattle.rv_core.specs.Waits.{told_of, goes_on, IsProperWant, data_accesses, Replies, reply_value, act_asked, fuel_of};
 
     /// A core over a memory that lies there, at its first instruction: all registers are 0 but x2, the stack
     /// pointer.
@@ -171,14 +171,18 @@ impl Core {
     }
 
     /// The reply to what the core wants, which has to be of that kind; a loaded value is below 256 to the power of
-    /// its width. Where the core so far is at the end of a begun run, it is at the end of one with this access
-    /// more; a fetch takes one of the program's fuel.
+    /// its width. A program that stands where the core so far does goes on from there by this access; so where the
+    /// core is at the end of a begun run, it is at the end of one with this access more. A fetch takes one of the
+    /// program's fuel.
     pub fn told(&mut self, reply: Reply)
         requires { Replies (core_want self.old) reply }
         ensures value { self.new ≡ told_of self.old reply }
         ensures layout { self.new.core.layout ≡ self.old.core.layout }
         // After a load or a store the instruction is over: what comes next is a fetch or the end.
         ensures once { data_accesses (core_want self.old) ≡ 1 → data_accesses (core_want self.new) ≡ 0 }
+        ensures step { (fuel left : ℕ) (act : Act)
+            → act_asked (core_want self.old) (reply_value reply) ≡ Some act → fuel ≡ left + fuel_of reply
+            → goes_on (standing self.old fuel) act ≡ Some (standing self.new left) }
         ensures run { (start : AppProgram) (entries : List Entry) (fuel left actor : ℕ) (act : Act)
             → act_asked (core_want self.old) (reply_value reply) ≡ Some act → fuel ≡ left + fuel_of reply
             → IsBegunRun start entries (standing self.old fuel)
