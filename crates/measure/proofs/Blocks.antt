@@ -1,8 +1,8 @@
 -- The attested blocks, as the order rule and a program have them.
-use Rattle.std.proofs.Common.{◌≡◌, ℕ, ◌+◌, ◌<◌, true, false, List, [], ◌∷◌, ◌++◌, length, get_or, take, Some, refl, sym, ap, ◌∙◌}
+use Rattle.std.proofs.Common.{◌≡◌, ℕ, ◌+◌, ◌<◌, false, List, [], ◌∷◌, ◌++◌, take, Some, sym, ap, ◌∙◌}
 use Rattle.std.specs.Prelude.{IsTrue, ◌&&◌, not, ◌==◌}
 use Rattle.std.proofs.lemmas.Bool.{and_from, eq-eqb}
-use Rattle.history.specs.declared.events.Act.TheVariants.{Copy, End}
+use Rattle.history.specs.declared.events.Act.TheVariants.{End}
 use Rattle.history.specs.declared.ranges.Range.{Range}
 use Rattle.history.specs.Attested.{AreApart, attested_block, attested_blocks, index_of, is_attested, total}
 use Rattle.history.specs.Layout.{Setting, IsSetting}

@@ -20,7 +20,8 @@ use Rattle.measure.specs.declared.passing.Passing.{Passing}
 use Rattle.measure.specs.declared.passing.Attested.TheVariants as attested
 use Rattle.measure.specs.declared.passing.Closed.TheVariants as closed
 use Rattle.measure.specs.Program.{HasMade, IsCut, closing_acts}
-use Rattle.measure.specs.Passing.{EndsHere, HasClosed, IsEnded, IsPassing, IsUnderWay, MetFull, ReleasesHere}
+use Rattle.measure.specs.Measured.{IsNoteOn}
+use Rattle.measure.specs.Passing.{EndsHere, HasClosed, IsEnded, IsPassing, IsUnderWay, MetFull, ReleasesHere, report_with}
 use Rattle.measure.proofs.Parts.{MadeAdded, MadeMore, MadeOthers, cut_there, cut_within, own_adds}
 
 abbrev pub Ends : Type 0
@@ -28,10 +29,6 @@ Ends = (w : Setting) (old new : List Entry) (c : Challenge) (start : ℕ) → Is
 
 abbrev pub Releases : Type 0
 Releases = (w : Setting) (old new : List Entry) (c : Challenge) (start : ℕ) → IsLegal w new → AddsEntry 0 1 old new (entry_by 0 Release) → IsUnderWay w old c start (total w.ranges) true → ReleasesHere new c start
-
--- the report on a pass that ends here, with this tag
-abbrev pub report_with : Passing → ℕ → List ℕ → Report
-report_with p place tag = record { discipline = p.challenge.discipline; counter = p.challenge.counter; nonce = p.challenge.nonce; shape = p.shape; start = p.start; end = place; tag = tag }
 
 pub ended_on : MadeAdded → Ends → (key : List ℕ) (w : Setting) (low high : ℕ) → IsMeasurer low high → (old new : List Entry) (p : Passing) (place : ℕ) (tag : List ℕ)
     → IsLegal w new → IsDone low high old new End place → IsPassing w old (total w.ranges) p
@@ -80,25 +77,33 @@ release_full more others w c low high m first old new place extended entries leg
   legal,
 )
 
+-- the note on a Release that was made
+pub noted_on : Releases → (key : List ℕ) (w : Setting) (c : Challenge) (r : Report) (old new : List Entry) (n : Note)
+    → IsUnderWay w old c r.start (total w.ranges) true → IsLegal w new → AddsEntry 0 1 old new (entry_by 0 Release) → n.release ≡ length new
+    → n.counter ≡ r.counter → n.start ≡ r.start → n.end ≡ r.end → n.tag ≡ note_tag key r.counter r.start r.end n.release r.tag
+    → IsNoteOn key c new r n
+noted_on releases key w c r old new n u legal adds here counter start end tagged =
+    let e = releases w old new c r.start legal adds u in
+    record {
+      counter = counter;
+      start = start;
+      end = end;
+      past = reverse e.before;
+      here = ap (back new) here ∙ ap reverse (take-length new) ∙ ap reverse e.last ∙ reverse-append e.before (entry_by 0 Release ∷ []);
+      releases = rw here e.releases;
+      tag = rw (counter, start, end) tagged;
+    }
+
 -- Release, and the note on it
 pub released_on : MadeMore → MadeAdded → Releases → (key : List ℕ) (w : Setting) (c : Challenge) (r : Report) (low high : ℕ) → IsMeasurer low high → (first old new : List Entry) (n : Note)
     → is_extended c.discipline ≡ true → HasMade first old (replicate c.hold Tick) → IsUnderWay w old c r.start (total w.ranges) true → IsLegal w new → IsDone low high old new Release n.release
     → n.counter ≡ r.counter → n.start ≡ r.start → n.end ≡ r.end → n.tag ≡ note_tag key r.counter r.start r.end n.release r.tag
     → HasClosed key w c r first new (closed.Released n)
 released_on more added releases key w c r low high m first old new n extended entries u legal done counter start end tagged =
-    let adds = own_adds low high m old new Release done.0 in
-    let e = releases w old new c r.start legal adds u in (
+    let adds = own_adds low high m old new Release done.0 in (
       subst (HasMade first new) (sym (closing_is c extended)) (more first old new (replicate c.hold Tick) (Release ∷ []) entries (added old new Release adds)),
       legal,
       extended,
-      record {
-        counter = counter;
-        start = start;
-        end = end;
-        past = reverse e.before;
-        here = ap (back new) done.1 ∙ ap reverse (take-length new) ∙ ap reverse e.last ∙ reverse-append e.before (entry_by 0 Release ∷ []);
-        releases = rw done.1 e.releases;
-        tag = rw (counter, start, end) tagged;
-      },
+      noted_on releases key w c r old new n u legal adds done.1 counter start end tagged,
       done.1,
     )

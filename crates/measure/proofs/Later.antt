@@ -1,5 +1,5 @@
 -- What a report and a note say of a list of entries holds on every longer list.
-use Rattle.std.proofs.Common.{◌≡◌, ℕ, suc, ◌+◌, ◌-◌, ◌<◌, ◌≤◌, Bool, true, false, List, [], ◌∷◌, ◌++◌, length, reverse, take, drop, Option, Some, None, option_map, refl, sym, ap, ◌∙◌, subst, inl, inr, append_assoc, length-append, arith}
+use Rattle.std.proofs.Common.{◌≡◌, ℕ, suc, ◌+◌, ◌-◌, ◌<◌, ◌≤◌, Bool, true, false, List, [], ◌∷◌, ◌++◌, length, reverse, take, Option, Some, None, option_map, refl, sym, ap, ◌∙◌, subst, inl, inr, length-append, arith}
 use Rattle.std.specs.Prelude.{IsTrue, ◌⊎◌, ◌||◌, not, ◌&&◌}
 use Rattle.std.specs.List.{list_any}
 use Rattle.std.proofs.lemmas.List.{reverse-append, take-append-le, length-reverse, length-take-le}
@@ -14,8 +14,7 @@ use Rattle.history.specs.declared.events.Entry.{Entry}
 use Rattle.history.specs.Layout.{Setting, IsSetting}
 use Rattle.history.specs.Memory.{attested_bytes, back, memory_after, memory_at}
 use Rattle.history.specs.Pass.{Pass, longer, pass_after, pass_step, start_of, is_ended, is_extended, is_release, is_released}
-use Rattle.history.specs.Legal.{IsLegal, IsLegalBack, MayFollow, in_order}
-use Rattle.history.specs.Copied.{copied_bytes}
+use Rattle.history.specs.Legal.{IsLegal, IsLegalBack, in_order}
 use Rattle.history.specs.Instants.{EndsAt, IsInstant, IsPassAt, ReleasesAt, is_newest}
 use Rattle.history.specs.Sliding.{CopiedIsMemory}
 use Rattle.challenge.specs.declared.Challenge.{Challenge}

@@ -9,3 +9,5 @@ pub mod BusyPort
 pub mod Blocks
 pub mod Programs
 pub mod Later
+pub mod Turns
+pub mod Between

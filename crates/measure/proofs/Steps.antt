@@ -57,7 +57,7 @@ kept w old new c start copied ended u k = record {
 }
 
 -- entries of others alone
-keeps_rest : OrderStays → PassStays → (w : Setting) (old rest : List Entry) → IsLegal w (old ++ rest) → own rest 0 1 ≡ [] → Keeps w old (old ++ rest)
+pub keeps_rest : OrderStays → PassStays → (w : Setting) (old rest : List Entry) → IsLegal w (old ++ rest) → own rest 0 1 ≡ [] → Keeps w old (old ++ rest)
 keeps_rest order stays w old rest legal none = record {
   legal = λ was. legal;
   start = λ discipline counter. order w old rest legal none (Start discipline counter);

@@ -2,3 +2,4 @@ pub mod Program
 pub mod Measured
 pub mod Passing
 pub mod Machine
+pub mod Stepping

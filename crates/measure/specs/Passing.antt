@@ -106,6 +106,10 @@ pub record HasEnded (key : List ℕ) (w : Setting) (c : Challenge) (seen : List 
   pub under_way : IsUnderWay w before c r.start (total w.ranges) false
   pub tag : r.tag ≡ report_tag key (asked_by c) r.shape (copied_bytes w (reverse before)) r.start r.end
 
+-- the report on a pass that ends at this place, with this tag
+abbrev pub report_with : Passing → ℕ → List ℕ → Report
+report_with p place tag = record { discipline = p.challenge.discipline; counter = p.challenge.counter; nonce = p.challenge.nonce; shape = p.shape; start = p.start; end = place; tag = tag }
+
 -- End was made, and here is the report; or it met a full history
 abbrev pub IsEnded : List ℕ → Setting → Passing → List Entry → List Entry → Attested → Type 0
 IsEnded key w p old new (attested.Ended report) =

@@ -50,8 +50,8 @@ fn goes_on()
     own_entries();
 }
 
-// Stores the word, if the address fits and the block isn't locked.
-fn disturb(core: &mut MemCore, addr: u32, value: u32)
+/// Stores the word, if the address fits and the block isn't locked.
+pub fn disturb(core: &mut MemCore, addr: u32, value: u32)
     ensures world { core.new.world ≡ core.old.world }
     ensures others { OthersFollow 0 1 core.old.history core.new.history }
     ensures legal { IsLegal core.new.world core.new.history }

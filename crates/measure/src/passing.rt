@@ -11,9 +11,9 @@ ghost use Rattle.hmac256.specs.States.{StandsFor};
 ghost use Rattle.challenge.specs.Challenges.{asked_by};
 ghost use Rattle.chronicle.specs.Worlds.{shape_of};
 ghost use Rattle.chronicle.specs.Ports.{IsMeasurer, KeepsPort};
-ghost use Rattle.report.specs.Tags.{head_bytes};
+ghost use Rattle.report.specs.Tags.{head_bytes, report_tag};
 ghost use Rattle.measure.specs.Program.{copies};
-ghost use Rattle.measure.specs.Passing.{HasBegun, HasClosed, HasCopiedBlocks, HasTicked, IsEnded, IsPassing, IsUnderWay};
+ghost use Rattle.measure.specs.Passing.{HasBegun, HasClosed, HasCopiedBlocks, HasTicked, IsEnded, IsPassing, IsUnderWay, report_with};
 
 use crate::hashing::{MEASURER, hash_block};
 use crate::laws;
@@ -89,6 +89,23 @@ pub fn tick_for<P: BlockPort, G: Gate>(port: &mut P, count: u32, gate: &G) -> Pa
     Part::Made
 }
 
+/// The pass whose Start has this place: its digest has taken in the report's head.
+pub fn passing_from(key: &[u8], challenge: &Challenge, shape: &Shape, start: u64) -> Passing
+    ensures challenge { result.challenge ≡ challenge.now }
+    ensures shape { result.shape ≡ shape.now }
+    ensures start { result.start ≡ start }
+    ensures digest { StandsFor result.hmac key.now (head_bytes (asked_by challenge.now) shape.now) }
+{
+    let mut hmac = Hmac::new(key);
+    hmac.update(head(challenge, shape).as_slice());
+    Passing {
+        challenge: *challenge,
+        shape: *shape,
+        hmac,
+        start,
+    }
+}
+
 /// Begins the pass of the challenge.
 pub fn begin<P: BlockPort, G: Gate>(
     port: &mut P,
@@ -112,15 +129,8 @@ pub fn begin<P: BlockPort, G: Gate>(
         Step::Full { place } => return Begun::Full { place },
     };
     gate.at(MEASURER, made(MADE_START, start));
-    let mut hmac = Hmac::new(key);
-    hmac.update(head(challenge, shape).as_slice());
     Begun::Made {
-        passing: Passing {
-            challenge: *challenge,
-            shape: *shape,
-            hmac,
-            start,
-        },
+        passing: passing_from(key, challenge, shape, start),
     }
 }
 
@@ -182,6 +192,34 @@ pub fn copy_blocks<P: BlockPort, G: Gate>(
     Part::Made
 }
 
+/// The report on a pass whose End has this place: its digest takes in the places of Start and End last.
+#[tactic(auto, unfolding(report::specs::Tags::report_tag))]
+pub fn report_at(passing: Passing, end: u64) -> Report
+    ensures report { result ≡ report_with passing end result.tag }
+    ensures tag { (key text : List ℕ)
+        → StandsFor passing.hmac key (head_bytes (asked_by passing.challenge) passing.shape ++ text)
+        → result.tag ≡ report_tag key (asked_by passing.challenge) passing.shape text passing.start end }
+{
+    let Passing {
+        challenge,
+        shape,
+        mut hmac,
+        start,
+    } = passing;
+    hmac.update(&tail(start, end));
+    let nonce = challenge.nonce;
+    let tag = hmac.finish();
+    Report {
+        discipline: challenge.discipline,
+        counter: challenge.counter,
+        nonce,
+        shape,
+        start,
+        end,
+        tag,
+    }
+}
+
 /// Ends the pass, and reports on it.
 pub fn end_pass<P: BlockPort, G: Gate>(port: &mut P, passing: Passing, gate: &G) -> Attested
     requires actor { IsMeasurer (P.low port.old) (P.high port.old) }
@@ -199,25 +237,9 @@ pub fn end_pass<P: BlockPort, G: Gate>(port: &mut P, passing: Passing, gate: &G)
         Step::Full { place } => return Attested::Full { place },
     };
     gate.at(MEASURER, made(MADE_END, end));
-    let Passing {
-        challenge,
-        shape,
-        mut hmac,
-        start,
-    } = passing;
-    hmac.update(&tail(start, end));
-    let nonce = challenge.nonce;
-    let tag = hmac.finish();
-    let report = Report {
-        discipline: challenge.discipline,
-        counter: challenge.counter,
-        nonce,
-        shape,
-        start,
-        end,
-        tag,
-    };
-    Attested::Ended { report }
+    Attested::Ended {
+        report: report_at(passing, end),
+    }
 }
 
 /// What comes after End: in an extended discipline the Ticks to hold for, and Release, with a note on it.

@@ -1,17 +1,18 @@
 //! Measurements over a core alone, and with stores between the measuring steps. The tags are those of another
 //! program's HMAC-SHA-256.
 
-ghost use Rattle.std.specs.Prelude.{◌≡◌, ℕ, List, [], ◌∷◌};
+ghost use Rattle.std.specs.Prelude.{◌≡◌, ℕ, false, List, [], ◌∷◌};
 ghost use Rattle.std.specs.Option.{IfSome};
 ghost use Rattle.measure.specs.Measured.{HasMeasured};
+ghost use Rattle.measure.specs.Stepping.{Stands, is_over};
 
 use super::*;
-use crate::busy::Busy;
+use crate::busy::{Busy, disturb};
 use crate::hashing::{Taker, hash_block};
 use att_base::{Gate, NoGate, Spot};
 use block_memory::Geometry;
 use challenge::{Challenge, Discipline};
-use chronicle::{Act, Shape, World};
+use chronicle::{Act, Shape, Step, World};
 use lock_plan::{PlanStep, Range, Ranges};
 use mem_core::{Direct, MemCore};
 use report::{Note, Report, write_report};
@@ -109,7 +110,12 @@ fn measure_alone<G: Gate>(core: &mut MemCore, challenge: &Challenge, gate: &G) -
 }
 
 /// The same with an application that stores a word at this address before each step.
-fn measure_busy(core: &mut MemCore, addr: u32, challenge: &Challenge) -> Option<Measured> {
+fn measure_busy<G: Gate>(
+    core: &mut MemCore,
+    addr: u32,
+    challenge: &Challenge,
+    gate: &G,
+) -> Option<Measured> {
     let mut buffer = [0u8; 16];
     if !challenge.is_valid() || core.next() != PlanStep::Start {
         return None;
@@ -118,7 +124,62 @@ fn measure_busy(core: &mut MemCore, addr: u32, challenge: &Challenge) -> Option<
         return None;
     }
     let mut port = Busy::new(core, addr);
-    Some(measure(&mut port, b"key", challenge, &mut buffer, &NoGate))
+    Some(measure(&mut port, b"key", challenge, &mut buffer, gate))
+}
+
+// One store of the application, and one turn of the measurer.
+fn store_and_turn<G: Gate>(
+    core: &mut MemCore,
+    measuring: &mut Measuring,
+    _challenge: &Challenge,
+    addr: u32,
+    value: u32,
+    buffer: &mut [u8; 16],
+    gate: &G,
+) -> Step
+    requires more { is_over measuring.old ≡ false }
+    requires room { core.old.world.layout.size ≡ 16 }
+    requires stands { Stands (107 ∷ 101 ∷ 121 ∷ []) core.old.world _challenge.now [] core.old.history measuring.old }
+    ensures world { core.new.world ≡ core.old.world }
+    ensures stands { Stands (107 ∷ 101 ∷ 121 ∷ []) core.new.world _challenge.now [] core.new.history measuring.new }
+{
+    measuring_stands();
+    disturb(core, addr, value);
+    measuring.turn(&mut Direct::new(core, 0), b"key", buffer, gate)
+}
+
+/// The same by turns, with the application's stores between them, from an empty history on.
+fn measure_by_turns<G: Gate>(
+    core: &mut MemCore,
+    addr: u32,
+    challenge: &Challenge,
+    gate: &G,
+) -> Option<Measured> {
+    let mut buffer = [0u8; 16];
+    if !challenge.is_valid() || core.length() != 0 {
+        return None;
+    }
+    if core.world().geometry().size() != 16 {
+        return None;
+    }
+    let mut measuring = Measuring::new(challenge);
+    'turning: for value in 1..100 {
+        if measuring.is_over() {
+            break 'turning;
+        }
+        store_and_turn(
+            core,
+            &mut measuring,
+            challenge,
+            addr,
+            value,
+            &mut buffer,
+            gate,
+        );
+    }
+    let report = measuring.report()?;
+    let note = measuring.note();
+    Some(Measured::Done { report, note })
 }
 
 // The acts in order, a Copy by its block, others by a letter.
@@ -278,7 +339,7 @@ fn stores_between_the_steps_change_no_instant(rt: HostRuntime) -> Result<(), Fai
     let mut core = core_of(&rt, ranges, 100)?;
     let digest = tag("4f126a0e02a3d13d5d2c243199989efd230d331c28f3469b7448f4f0f8889a8b")?;
     assert_eq!(rt;
-        measure_busy(&mut core, BASE + 48, &dec),
+        measure_busy(&mut core, BASE + 48, &dec, &NoGate),
         Some(Measured::Done {
             report: report(&dec, ranges, 2, 8, digest),
             note: None,
@@ -291,7 +352,7 @@ fn stores_between_the_steps_change_no_instant(rt: HostRuntime) -> Result<(), Fai
     let mut core = core_of(&rt, ranges, 100)?;
     let digest = tag("691acf3b00ae130e138cd6a3666fcc02915c8c4ef307665b54bd9257f041b609")?;
     assert_eq!(rt;
-        measure_busy(&mut core, BASE + 48, &inc),
+        measure_busy(&mut core, BASE + 48, &inc, &NoGate),
         Some(Measured::Done {
             report: report(&inc, ranges, 2, 11, digest),
             note: None,
@@ -309,7 +370,7 @@ fn stores_wait_until_release(rt: HostRuntime) -> Result<(), Fail> {
     let digest = tag("008ee6c580b2eefc50f80be1cf65d6b1a634fb802cd94dee87386d5571e62f9a")?;
     let released = tag("5d4160189dae2c1c01a57ccb3a456da24ef018d8eaa52271d120447d0e75f457")?;
     assert_eq!(rt;
-        measure_busy(&mut core, BASE + 48, &asked),
+        measure_busy(&mut core, BASE + 48, &asked, &NoGate),
         Some(Measured::Done {
             report: report(&asked, ranges, 2, 7, digest),
             note: Some(Note {
@@ -322,6 +383,35 @@ fn stores_wait_until_release(rt: HostRuntime) -> Result<(), Fail> {
         })
     );
     assert_eq!(rt; &letters(core), b"sS0123ER....");
+    Ok(())
+}
+
+#[test]
+fn turns_make_the_same_measurement(rt: HostRuntime) -> Result<(), Fail> {
+    use Discipline::{All, AllExt, Dec, Inc, IncExt};
+    let ranges = two_ranges()?;
+    for (discipline, hold) in [(All, 0), (AllExt, 2), (Dec, 0), (Inc, 0), (IncExt, 1)] {
+        let asked = challenge(discipline, 1, hold, 8);
+        let mut one = core_of(&rt, ranges, 100)?;
+        let mut other = core_of(&rt, ranges, 100)?;
+        let told = Recorder {
+            spots: RefCell::new(Vec::new(rt.alloc())),
+        };
+        let told_by_turns = Recorder {
+            spots: RefCell::new(Vec::new(rt.alloc())),
+        };
+        let whole = measure_busy(&mut one, BASE + 80, &asked, &told);
+        assert!(rt; whole.is_some());
+        assert_eq!(rt;
+            measure_by_turns(&mut other, BASE + 80, &asked, &told_by_turns),
+            whole
+        );
+        assert_eq!(rt;
+            told_by_turns.spots.into_inner().as_slice(),
+            told.spots.into_inner().as_slice()
+        );
+        assert_eq!(rt; letters(other), letters(one));
+    }
     Ok(())
 }
 

@@ -1,4 +1,4 @@
-use Rattle.std.proofs.Common.{◌≡◌, replicate}
+use Rattle.std.proofs.Common.{replicate}
 use Rattle.history.specs.declared.events.Act.TheVariants as act
 use Rattle.chronicle.specs.Ports.{KeepsPort}
 use Rattle.measure.specs.Program.{HasMade}

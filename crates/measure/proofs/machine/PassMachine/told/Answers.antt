@@ -1,5 +1,5 @@
 -- A Tick less to lead with, or a block more.
-use Rattle.std.proofs.Common.{rules, arith}
+use Rattle.std.proofs.Common.{rules}
 use Rattle.measure.proofs.Machines.{leading_told, copying_told}
 use Rattle.measure.proofs.machine.PassMachine.told.Goals as goal
 
