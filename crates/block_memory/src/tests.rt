@@ -89,6 +89,68 @@ fn bytes_are_little_endian(rt: HostRuntime) -> Result<(), Fail> {
     Ok(())
 }
 
+// How many bytes an access has.
+fn count(width: Width) -> usize {
+    match width {
+        Width::Byte => 1,
+        Width::Half => 2,
+        Width::Word => 4,
+    }
+}
+
+// Puts the lowest bytes of the value into one buffer of all bytes.
+fn put(plain: &mut [u8], offset: usize, width: Width, value: u32) {
+    let bytes = value.to_le_bytes();
+    for (byte, new) in plain
+        .iter_mut()
+        .skip(offset)
+        .zip(bytes.iter().take(count(width)))
+    {
+        *byte = *new;
+    }
+}
+
+// The value of an access to it.
+fn value_at(plain: &[u8], offset: usize, width: Width) -> u32 {
+    let mut value = 0_u32;
+    for byte in plain.iter().skip(offset).take(count(width)).rev() {
+        value = value.wrapping_mul(256).wrapping_add(u32::from(*byte));
+    }
+    value
+}
+
+#[test]
+fn random_accesses_agree_with_one_buffer(rt: HostRuntime) -> Result<(), Fail> {
+    let Some(geometry) = Geometry::new(0x1000, 16, 4) else {
+        return Err("no geometry".into());
+    };
+    let mut memory = BlockMemory::new(rt.alloc(), geometry, &[0; 64])?;
+    let mut plain = [0; 64];
+    let mut random = 1_u32;
+    for _ in 0..400 {
+        random = random.wrapping_mul(1_664_525).wrapping_add(1_013_904_223);
+        let (width, value) = match random >> 30 {
+            0 => (Width::Byte, random % 256),
+            1 => (Width::Half, random % 65_536),
+            _ => (Width::Word, random),
+        };
+        let addr = 0x1000 + (random >> 20) % 64;
+        if !memory.geometry().fits(addr, width) || !aligned(addr, width) {
+            continue;
+        }
+        memory.store(addr, width, value);
+        put(&mut plain, (addr - 0x1000) as usize, width, value);
+        for word in 0..16 {
+            let at = 0x1000 + 4 * word;
+            if memory.geometry().fits(at, Width::Word) && aligned(at, Width::Word) {
+                let want = value_at(&plain, 4 * word as usize, Width::Word);
+                assert_eq!(rt; memory.load(at, Width::Word), want, "at {at}");
+            }
+        }
+    }
+    Ok(())
+}
+
 #[test]
 fn laws_are_called() {
     access_in_one_block();
