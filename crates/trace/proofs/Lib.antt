@@ -1,0 +1,10 @@
+pub mod Written
+pub mod Pieces
+pub mod Bounds
+pub mod Checks
+pub mod Unique
+pub mod OneTrace
+pub mod Fronts
+pub mod Again
+pub mod Takes
+pub mod Stands

@@ -1,0 +1,4 @@
+pub mod Text
+pub mod Printable
+pub mod Checking
+pub mod Reading

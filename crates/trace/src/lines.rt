@@ -1,0 +1,267 @@
+//! The lines of a trace, appended to its text.
+
+ghost use Rattle.std.specs.Prelude.{◌≡◌, ◌^◌, ◌<◌, ◌≤◌, ◌++◌, ◌∷◌, [], length, map, codes, OnOk, All};
+ghost use Rattle.std.specs.List.{flat_map};
+ghost use Rattle.std.specs.Fmt.{decimal};
+ghost use Rattle.std.specs.Fork.{slice_chunk};
+ghost use Rattle.std.specs.Slice.Iter.{chunk_count};
+ghost use Rattle.hex.specs.Hex.{encode_lower};
+ghost use Rattle.history.specs.declared.events.Width.TheVariants.{Byte, Half, Word};
+ghost use Rattle.history.specs.Layout.{width_bytes};
+ghost use Rattle.text_readers.specs.Digits.{word_digits};
+ghost use Rattle.trace.specs.Text.{text_of_lines, width_digit, width_digits, access_text, act_text, entry_text, range_pair, version_line, memory_line, attest_line, cap_line, head_lines, image_lines, end_line};
+ghost use Rattle.trace.specs.Printable.{ActIsPrintable, IsPrintable};
+
+use chronicle::{Act, Entry, Geometry, Range, Ranges, Width, World};
+use itoa::Buffer;
+use std::alloc::AllocError;
+use text_readers::{byte_digits, word_digits};
+
+fn put_number(out: &mut Vec<u8>, number: u64) -> Result<(), AllocError>
+    ensures { OnOk result (out.new.items ≡ out.old.items ++ decimal number) }
+{
+    let mut buffer = Buffer::new();
+    out.extend_from_slice(buffer.format(number).as_bytes())
+}
+
+fn half_digits(value: u16) -> [u8; 4]
+    ensures { result ≡ width_digits Half value }
+{
+    let mut digits = [0u8; 4];
+    let bytes = value.to_be_bytes();
+    let Ok(()) = hex::encode_to_slice(bytes.as_slice(), &mut digits) else {
+        unreachable!()
+    };
+    digits
+}
+
+// A value in two digits for each byte of its width.
+fn put_value(out: &mut Vec<u8>, width: Width, value: u32) -> Result<(), AllocError>
+    requires { value < 256 ^ width_bytes width }
+    ensures { OnOk result (out.new.items ≡ out.old.items ++ width_digits width value) }
+{
+    match width {
+        Width::Byte => out.extend_from_slice(&byte_digits(value as u8)),
+        Width::Half => out.extend_from_slice(&half_digits(value as u16)),
+        Width::Word => out.extend_from_slice(&word_digits(value)),
+    }
+}
+
+// ` ADDR VALUE`
+fn put_access(out: &mut Vec<u8>, addr: u32, width: Width, value: u32) -> Result<(), AllocError>
+    requires { value < 256 ^ width_bytes width }
+    ensures { OnOk result (out.new.items ≡ out.old.items ++ access_text addr width value) }
+{
+    out.push(b' ')?;
+    out.extend_from_slice(&word_digits(addr))?;
+    out.push(b' ')?;
+    put_value(out, width, value)
+}
+
+// An act, as it stands behind its actor.
+#[tactic(auto, unfolding(crate::specs::Text::act_text))]
+fn put_act(out: &mut Vec<u8>, act: &Act) -> Result<(), AllocError>
+    requires { ActIsPrintable act.now }
+    ensures { OnOk result (out.new.items ≡ out.old.items ++ act_text act.now) }
+{
+    match *act {
+        Act::Fetch { addr, value } => {
+            out.extend_from_slice(b" f")?;
+            put_access(out, addr, Width::Word, value)
+        }
+        Act::Load { addr, width, value } => {
+            out.extend_from_slice(load_word(width))?;
+            put_access(out, addr, width, value)
+        }
+        Act::Store { addr, width, value } => {
+            out.extend_from_slice(store_word(width))?;
+            put_access(out, addr, width, value)
+        }
+        Act::Start {
+            discipline,
+            counter,
+        } => {
+            out.extend_from_slice(b" start ")?;
+            put_number(out, u64::from(discipline.code()))?;
+            out.push(b' ')?;
+            put_number(out, counter)
+        }
+        Act::Copy { block } => {
+            out.extend_from_slice(b" copy ")?;
+            put_number(out, u64::from(block))
+        }
+        Act::End => out.extend_from_slice(b" end"),
+        Act::Tick => out.extend_from_slice(b" tick"),
+        Act::Release => out.extend_from_slice(b" release"),
+    }
+}
+
+fn load_word(width: Width) -> &'static [u8]
+    ensures { result.now ≡ codes " l" ++ width_digit width }
+{
+    match width {
+        Width::Byte => b" l1",
+        Width::Half => b" l2",
+        Width::Word => b" l4",
+    }
+}
+
+fn store_word(width: Width) -> &'static [u8]
+    ensures { result.now ≡ codes " s" ++ width_digit width }
+{
+    match width {
+        Width::Byte => b" s1",
+        Width::Half => b" s2",
+        Width::Word => b" s4",
+    }
+}
+
+// The actor, a digit.
+#[tactic(auto, using(std::proofs::lemmas::Fmt::decimal_digit))]
+fn put_actor(out: &mut Vec<u8>, actor: u32) -> Result<(), AllocError>
+    requires { actor ≤ 8 }
+    ensures { OnOk result (out.new.items ≡ out.old.items ++ decimal actor) }
+{
+    out.push(b'0' + actor as u8)?;
+    Ok(())
+}
+
+// The line of an entry, with its end.
+#[tactic(auto, unfolding(crate::specs::Text::entry_text))]
+fn put_entry(out: &mut Vec<u8>, entry: &Entry) -> Result<(), AllocError>
+    requires { IsPrintable entry.now }
+    ensures { OnOk result (out.new.items ≡ out.old.items ++ (entry_text entry.now ++ 10 ∷ [])) }
+{
+    put_actor(out, entry.actor)?;
+    put_act(out, &entry.act)?;
+    out.push(b'\n')?;
+    Ok(())
+}
+
+/// The lines of entries.
+pub fn put_entries(out: &mut Vec<u8>, entries: &[Entry]) -> Result<(), AllocError>
+    requires { All IsPrintable entries.now }
+    ensures { OnOk result (out.new.items ≡ out.old.items ++ text_of_lines (map entry_text entries.now)) }
+{
+    for entry in entries {
+        put_entry(out, entry)?;
+    }
+    Ok(())
+}
+
+// The line of at most 32 bytes of the image, with its end.
+fn put_image_line(out: &mut Vec<u8>, bytes: &[u8]) -> Result<(), AllocError>
+    requires { length bytes.now ≤ 32 }
+    ensures { OnOk result (out.new.items ≡ out.old.items ++ (encode_lower bytes.now ++ 10 ∷ [])) }
+{
+    let mut digits = [0u8; 64];
+    let digits = &mut digits[..2 * bytes.len()];
+    let Ok(()) = hex::encode_to_slice(bytes, digits) else {
+        unreachable!()
+    };
+    out.extend_from_slice(digits)?;
+    out.push(b'\n')?;
+    Ok(())
+}
+
+// The bytes of the image's line with this number, from 0.
+fn image_piece(image: &[u8], line: usize) -> &[u8]
+    requires { line < chunk_count (length image.now) 32 }
+    ensures value { result.now ≡ slice_chunk image.now 32 line }
+    ensures few { length result.now ≤ 32 }
+{
+    let from = line * 32;
+    let to = (from + 32).min(image.len());
+    &image[from..to]
+}
+
+/// The lines of the image, 32 bytes each.
+#[tactic(auto, unfolding(crate::specs::Text::image_lines))]
+pub fn put_image(out: &mut Vec<u8>, image: &[u8]) -> Result<(), AllocError>
+    ensures { OnOk result (out.new.items ≡ out.old.items ++ text_of_lines (image_lines image.now)) }
+{
+    for line in 0..(image.len() + 31) / 32 {
+        put_image_line(out, image_piece(image, line))?;
+    }
+    Ok(())
+}
+
+fn put_version(out: &mut Vec<u8>, ranges: &Ranges) -> Result<(), AllocError>
+    ensures { OnOk result (out.new.items ≡ out.old.items ++ (version_line ranges.now ++ 10 ∷ [])) }
+{
+    if ranges.count() == 1 {
+        return out.extend_from_slice(b"TMT1\n");
+    }
+    out.extend_from_slice(b"TMT2\n")
+}
+
+fn put_memory(out: &mut Vec<u8>, geometry: &Geometry) -> Result<(), AllocError>
+    ensures { OnOk result (out.new.items ≡ out.old.items ++ (memory_line geometry.now ++ 10 ∷ [])) }
+{
+    out.extend_from_slice(b"memory ")?;
+    out.extend_from_slice(&word_digits(geometry.base()))?;
+    out.push(b' ')?;
+    put_number(out, u64::from(geometry.size()))?;
+    out.push(b' ')?;
+    put_number(out, u64::from(geometry.blocks()))?;
+    out.push(b'\n')?;
+    Ok(())
+}
+
+fn put_range(out: &mut Vec<u8>, range: Range) -> Result<(), AllocError>
+    ensures { OnOk result (out.new.items ≡ out.old.items ++ range_pair range) }
+{
+    out.push(b' ')?;
+    put_number(out, u64::from(range.first))?;
+    out.push(b' ')?;
+    put_number(out, u64::from(range.attested))
+}
+
+fn put_ranges(out: &mut Vec<u8>, ranges: &Ranges) -> Result<(), AllocError>
+    ensures { OnOk result (out.new.items ≡ out.old.items ++ flat_map range_pair ranges.now) }
+{
+    'listing: for k in 0..ranges.count() {
+        put_range(out, ranges.range(k))?;
+    }
+    Ok(())
+}
+
+fn put_attest(out: &mut Vec<u8>, ranges: &Ranges) -> Result<(), AllocError>
+    ensures { OnOk result (out.new.items ≡ out.old.items ++ (attest_line ranges.now ++ 10 ∷ [])) }
+{
+    out.extend_from_slice(b"attest")?;
+    put_ranges(out, ranges)?;
+    out.push(b'\n')?;
+    Ok(())
+}
+
+fn put_cap(out: &mut Vec<u8>, cap: u64) -> Result<(), AllocError>
+    ensures { OnOk result (out.new.items ≡ out.old.items ++ (cap_line cap ++ 10 ∷ [])) }
+{
+    out.extend_from_slice(b"cap ")?;
+    put_number(out, cap)?;
+    out.push(b'\n')?;
+    Ok(())
+}
+
+/// The first four lines.
+#[tactic(auto, unfolding(crate::specs::Text::head_lines))]
+pub fn put_head(out: &mut Vec<u8>, world: &World) -> Result<(), AllocError>
+    ensures { OnOk result (out.new.items ≡ out.old.items ++ text_of_lines (head_lines world.now)) }
+{
+    put_version(out, world.ranges())?;
+    put_memory(out, &world.geometry())?;
+    put_attest(out, world.ranges())?;
+    put_cap(out, world.cap())
+}
+
+/// `end N`, after N entries.
+#[tactic(auto, unfolding(crate::specs::Text::end_line))]
+pub fn put_end(out: &mut Vec<u8>, entries: &[Entry]) -> Result<(), AllocError>
+    ensures { OnOk result (out.new.items ≡ out.old.items ++ text_of_lines (end_line entries.now ∷ [])) }
+{
+    out.extend_from_slice(b"end ")?;
+    put_number(out, entries.len() as u64)?;
+    out.push(b'\n')?;
+    Ok(())
+}
