@@ -1,0 +1,15 @@
+pub mod Acting
+pub mod Beginnings
+pub mod Devices
+pub mod Ends
+pub mod Entries
+pub mod Measurements
+pub mod OneOutcome
+pub mod OnePass
+pub mod OneReport
+pub mod Releases
+pub mod Starts
+pub mod Told
+pub mod Joined
+pub mod Served
+pub mod Ran
