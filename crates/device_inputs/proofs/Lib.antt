@@ -1,0 +1,3 @@
+pub mod EachRead
+pub mod Rising
+pub mod Named

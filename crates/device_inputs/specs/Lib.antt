@@ -1,0 +1,4 @@
+pub mod Admissions
+pub mod Lists
+pub mod Inputs
+pub mod Setups
