@@ -1,0 +1,6 @@
+pub mod AttestedBytes
+pub mod Comes
+pub mod RunNames
+pub mod RunSetups
+pub mod SoundPasses
+pub mod StoredValues

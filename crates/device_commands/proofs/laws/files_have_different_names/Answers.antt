@@ -1,0 +1,5 @@
+use Rattle.device_commands.proofs.RunNames.{names_differ}
+use Rattle.device_commands.proofs.laws.files_have_different_names.Goals as goal
+
+pub returns : goal.returns
+returns c = names_differ

@@ -1,0 +1,4 @@
+pub mod ChallengeEnds
+pub mod Plans
+pub mod RunLines
+pub mod RunWritten
