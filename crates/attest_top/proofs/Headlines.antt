@@ -1,5 +1,8 @@
 -- What each command's output is worth, from its plan.
-use Rattle.std.proofs.Common.{◌≡◌, ℕ, List, [], Bool, true, false, if◌then◌else◌, ◌&&◌, Option, Some, Result, Ok, Err, refl, ap, ◌∙◌}
+use Rattle.std.proofs.Common.{◌≡◌, ℕ, List, [], ◌∷◌, All, Bool, true, false, if◌then◌else◌, ◌&&◌, Option, None, Some, Result, Ok, Err, IsOk, refl, ap, ◌∙◌}
+use Rattle.std.proofs.lemmas.List.{append-nil}
+use Rattle.std.proofs.lemmas.List.Elements.{All-nil, All-cons}
+use Rattle.att_base.specs.Streams.{put_after}
 use Rattle.att_base.specs.Files.{Contents}
 use Rattle.challenge.specs.declared.Challenge.{Challenge}
 use Rattle.executable.specs.declared.Program.{Program as Executable}
@@ -21,11 +24,26 @@ use Rattle.executable_commands.specs.Plans.{asm_plan, checked_assembly, written_
 use Rattle.message_commands.specs.Lines.{verdict_lines}
 use Rattle.input_files.specs.InputFiles.{checked_key, KeyIn}
 use Rattle.message_commands.specs.Plans.{written_challenge, challenge_plan, Knowledge, KnowledgeIn, ReadNote, accepts, accepts_note, verdict_on_note, judgement, verify_plan}
+use Rattle.device_config.specs.declared.plans.AppPlan.{AppPlan}
+use Rattle.device_config.specs.declared.plans.DevicePlan.{DevicePlan}
+use Rattle.device_config.specs.Files.{device_file}
+use Rattle.loader.specs.declared.placed.Placed.{Placed}
+use Rattle.loader.specs.declared.faults.PlaceFault.{PlaceFault}
+use Rattle.loader.specs.declared.faults.PlaceFault.TheVariants.{OutsideMemory, Overlap, EntryOutside, Memory as NoMemory}
+use Rattle.loader.specs.Placing.{placed}
+use Rattle.device_inputs.specs.Lists.{ReadEach}
+use Rattle.device_inputs.specs.Inputs.{checked_device, DeviceIn, if_sound, AppFileIn, AppFilesIn, checked_placing, PlacedIn}
+use Rattle.device_commands.specs.Plans.{attested_image, written_image, image_plan, run_setup, MayCome, found as come, spent as unmet, some_that, RunOfFiles, sched_plan}
+use Rattle.device.specs.declared.outcomes.Outcome.{Outcome}
+use Rattle.sched.specs.Scheduled.{IsScheduledOutcome}
+use Rattle.device_inputs.specs.declared.setup.ScheduledFiles.{ScheduledFiles}
+use Rattle.device_inputs.specs.Setups.{ScheduledIn}
+use Rattle.attest_top.specs.Outcomes.{after_files}
 use Rattle.attest_top.specs.declared.status.Status.{Status}
 use Rattle.attest_top.specs.declared.status.Status.TheVariants.{Good, Rejected, Full}
-use Rattle.attest_top.specs.Moments.{Moment, with_appended}
+use Rattle.attest_top.specs.Moments.{Moment, StreamView, stream_view, with_appended}
 use Rattle.attest_top.specs.Causes.{status_of}
-use Rattle.attest_top.specs.Headline.{HasBytes, ScriptTells, AsmTells, ShowTells, ChallengeTells, VerifyTells}
+use Rattle.attest_top.specs.Headline.{HasBytes, ScriptTells, AsmTells, ShowTells, ChallengeTells, VerifyTells, AppsHaveBytes, ImageTells, run_written, SchedTells}
 use Rattle.attest_top.specs.Prepared.{ScriptFound}
 use Rattle.attest_top.proofs.Becomes.{WroteAll}
 use Rattle.attest_top.proofs.Inverse.{through, known_gave, file_read, put_held}
@@ -223,3 +241,143 @@ pub no_files_verified : (verifier report : List ℕ) (noted : Option (List ℕ))
 no_files_verified verifier report noted names held w plan =
     let j = judged verifier report noted names held w plan in
     ap (λ (v : Written). v.files) j.is ∙ no_files_judged j.known j.bytes j.note
+
+-- ---- `image`
+
+record DeviceRead (device : List ℕ) (held : Option Contents) (plan : DevicePlan) : Type 0 where
+  text : List ℕ
+  read : HasBytes held device text
+  said : device_file text ≡ Ok plan
+
+device_said : (name : List ℕ) (said : Result DevicePlan ℕ) (plan : DevicePlan) → checked_device name said ≡ Ok plan → said ≡ Ok plan
+device_said name (Ok known) plan is = cc
+device_said name (Err rule) plan is = absurd cc
+
+device_read : (device : List ℕ) (held : Option Contents) (asked : List (List ℕ)) (plan : DevicePlan) → DeviceIn device held asked (Ok plan) → DeviceRead device held plan
+unfolding DeviceIn
+device_read device held asked plan is =
+    let t = through (ReadFile input_limit device held) (λ (text : List ℕ). exactly (checked_device device (device_file text))) asked plan is in
+    record {
+      text = t.value;
+      read = file_read input_limit device held t.before t.value t.is;
+      said = device_said device (device_file t.value) plan (known_gave (checked_device device (device_file t.value)) t.behind plan t.follows);
+    }
+
+-- the file of one application, and those of others
+record AppRead (held : Option Contents) (app : AppPlan) (bytes : List ℕ) : Type 0 where
+  read : HasBytes held app.file bytes
+  sound : IsOk (elf_of bytes)
+
+record AppsRead (held : Option Contents) (apps : List AppPlan) (files : List (List ℕ)) : Type 0 where
+  read : AppsHaveBytes held apps files
+  sound : All (λ file. IsOk (elf_of file)) files
+
+sound_bytes : (name bytes given : List ℕ) (file : Result ElfFile ElfFault) → elf_of bytes ≡ file → if_sound name bytes file ≡ Ok given → (bytes ≡ given) × IsOk (elf_of bytes)
+sound_bytes name bytes given (Ok file) said is = (cc, let fine : IsOk {T = ElfFile} {E = ElfFault} (Ok file) = refl in rw said fine)
+sound_bytes name bytes given (Err fault) said is = absurd cc
+
+app_read : (held : Option Contents) (app : AppPlan) (asked : List (List ℕ)) (bytes : List ℕ) → AppFileIn app held asked (Ok bytes) → AppRead held app bytes
+unfolding AppFileIn
+app_read held app asked bytes is =
+    let t = through (ReadFile input_limit app.file held) (λ (found : List ℕ). exactly (if_sound app.file found (elf_of found))) asked bytes is in
+    let both = sound_bytes app.file t.value bytes (elf_of t.value) refl (known_gave (if_sound app.file t.value (elf_of t.value)) t.behind bytes t.follows) in
+    let whole : AppRead held app t.value = record { read = file_read input_limit app.file held t.before t.value t.is; sound = both.1 } in
+    rw both.0 at whole
+
+apps_read : (held : Option Contents) (apps : List AppPlan) (asked : List (List ℕ)) (files : List (List ℕ)) → ReadEach AppFileIn apps held asked (Ok files) → AppsRead held apps files
+apps_read held [] asked files is =
+    let known = known_gave {A = List (List ℕ)} (Ok []) asked files is in
+    let none : [] ≡ files = cc in
+    let whole : AppsRead held [] [] = record { read = tt; sound = All-nil (λ (file : List ℕ). IsOk (elf_of file)) } in
+    rw none at whole
+apps_read held (app ∷ apps) asked files is =
+    let t = through (AppFileIn app held) (λ (bytes : List ℕ). Then (ReadEach AppFileIn apps held) (λ (rest : List (List ℕ)). exactly (Ok (bytes ∷ rest)))) asked files is in
+    let u = through (ReadEach AppFileIn apps held) (λ (rest : List (List ℕ)). exactly (Ok (t.value ∷ rest))) t.behind files t.follows in
+    let known = known_gave {A = List (List ℕ)} (Ok (t.value ∷ u.value)) u.behind files u.follows in
+    let all : t.value ∷ u.value ≡ files = cc in
+    let one = app_read held app t.before t.value t.is in
+    let more = apps_read held apps u.before u.value u.is in
+    let whole : AppsRead held (app ∷ apps) (t.value ∷ u.value) = record { read = (one.read, more.read); sound = All-cons (λ (file : List ℕ). IsOk (elf_of file)) t.value u.value one.sound more.sound } in
+    rw all at whole
+
+-- the applications in memory
+record PlacedRead (held : Option Contents) (plan : DevicePlan) (memory : Placed) : Type 0 where
+  apps : List (List ℕ)
+  read : AppsRead held plan.apps apps
+  is : placed plan.geometry apps ≡ Ok memory
+
+placed_said : (device : List ℕ) (found : Result Placed PlaceFault) (memory : Placed) → checked_placing device found ≡ Ok memory → found ≡ Ok memory
+placed_said device (Ok known) memory is = cc
+placed_said device (Err (OutsideMemory app segment)) memory is = absurd cc
+placed_said device (Err (Overlap app segment with_app with_segment)) memory is = absurd cc
+placed_said device (Err (EntryOutside app)) memory is = absurd cc
+placed_said device (Err NoMemory) memory is = absurd cc
+
+placed_read : (device : List ℕ) (plan : DevicePlan) (held : Option Contents) (asked : List (List ℕ)) (memory : Placed) → PlacedIn device plan held asked (Ok memory) → PlacedRead held plan memory
+unfolding PlacedIn
+placed_read device plan held asked memory is =
+    let t = through (AppFilesIn plan.apps held) (λ (apps : List (List ℕ)). exactly (checked_placing device (placed plan.geometry apps))) asked memory is in
+    record {
+      apps = t.value;
+      read = apps_read held plan.apps t.before t.value t.is;
+      is = placed_said device (placed plan.geometry t.value) memory (known_gave (checked_placing device (placed plan.geometry t.value)) t.behind memory t.follows);
+    }
+
+put_nothing : (bytes : Option (List ℕ)) → put_after bytes [] ≡ bytes
+put_nothing None = refl
+put_nothing (Some held) = ap (λ (h : List ℕ). Some h) (append-nil held)
+
+nothing_appended : (stream : StreamView) → with_appended [] stream ≡ stream
+nothing_appended stream = ap (λ (bytes : Option (List ℕ)). stream_view bytes stream.faults) (put_nothing stream.bytes)
+
+pub image_tells : (device out : List ℕ) (names : List (List ℕ)) (w : Written) (status : Status) (before after : Moment) → image_plan device out before.files.held names (Ok w)
+    → WroteAll w status before after → ImageTells device out status before after
+unfolding image_plan
+image_tells device out names w status before after plan wrote =
+    let held = before.files.held in
+    let t = through (DeviceIn device held) (λ (p : DevicePlan). Then (PlacedIn device p held) (λ (m : Placed). exactly (Ok (written_image out (attested_image p m.image))))) names w plan in
+    let u = through (PlacedIn device t.value held) (λ (m : Placed). exactly (Ok (written_image out (attested_image t.value m.image)))) t.behind w t.follows in
+    let known = known_gave {A = Written} (Ok (written_image out (attested_image t.value u.value.image))) u.behind w u.follows in
+    let is : w ≡ written_image out (attested_image t.value u.value.image) = cc in
+    let d = device_read device held t.before t.value t.is in
+    let p = placed_read device t.value held u.before u.value u.is in
+    record {
+      text = d.text;
+      read = d.read;
+      plan = t.value;
+      said = d.said;
+      apps = p.apps;
+      apps_read = p.read.read;
+      sound = p.read.sound;
+      memory = u.value;
+      is_placed = p.is;
+      ends = wrote.ends ∙ ap (λ (v : Written). status_of v.ending) is;
+      file = put_held held after.files.held out _ (rw is at wrote.files.held);
+      grown = wrote.out ∙ ap (λ (v : Written). with_appended v.out before.out) is ∙ nothing_appended before.out;
+    }
+
+-- ---- `sched`
+
+came_so : {A : Type 0} (Fits : A → Type 0) (a : A) → MayCome Fits (Ok a) → Fits a
+came_so Fits a (come b fits is) = let same : b ≡ a = cc in rw same at fits
+came_so Fits a (unmet is) = absurd cc
+
+pub sched_tells : (device schedule : List ℕ) (names : List (List ℕ)) (w : Written) (status : Status) (before after : Moment) → sched_plan device schedule before.files.held names (Ok w)
+    → WroteAll w status before after → SchedTells device schedule status before after
+unfolding sched_plan
+sched_tells device schedule names w status before after plan wrote =
+    let held = before.files.held in
+    let t = through (ScheduledIn device schedule held) (λ (read : ScheduledFiles). RunOfFiles read) names w plan in
+    let u = through (some_that (IsScheduledOutcome (run_setup t.value.setup) t.value.schedule)) (λ (outcome : Outcome). exactly (Ok (run_written t.value outcome))) t.behind w t.follows in
+    let known = known_gave {A = Written} (Ok (run_written t.value u.value)) u.behind w u.follows in
+    let is : w ≡ run_written t.value u.value = cc in
+    record {
+      names = t.before;
+      files = t.value;
+      read = t.is;
+      outcome = u.value;
+      ran = came_so (IsScheduledOutcome (run_setup t.value.setup) t.value.schedule) u.value u.is.1;
+      ends = wrote.ends ∙ ap (λ (v : Written). status_of v.ending) is;
+      written = wrote.files.held ∙ ap (λ (v : Written). after_files v.files held) is;
+      grown = wrote.out ∙ ap (λ (v : Written). with_appended v.out before.out) is;
+    }

@@ -5,7 +5,7 @@ use Rattle.command_plans.specs.Steps.{Reason, absent, failed, bad, no_memory, Co
 use Rattle.command_plans.specs.Reading.{file_bytes, MayRead, found, unread, spent, ReadFile, input_bytes, MayTake, ReadInput}
 use Rattle.attest_top.specs.Found.{IsFound, HasOneResult}
 
-lost : {A : Type 0} (reason : Reason) (came : Result A Reason) → came ≡ Err reason → IsFound came → IsFound {A = A} (Err reason)
+pub lost : {A : Type 0} (reason : Reason) (came : Result A Reason) → came ≡ Err reason → IsFound came → IsFound {A = A} (Err reason)
 lost reason came is sure = rw is at sure
 
 -- ---- steps of which one thing comes
@@ -68,4 +68,18 @@ one_then {A} {B} first next ones after asked names one other a b sure certain =
     let early = ones a.before b.before a.between b.between a.is b.is (found_before next a.between a.behind one a.follows sure) (found_before next b.between b.behind other b.follows certain) in
     let y : Follows a.between next b.behind other = rw (← early.1) at b.follows in
     let late = one_behind next after a.between a.behind b.behind one other a.follows y sure certain in
+    (a.all ∙ ap (λ (l : List (List ℕ)). l ++ a.behind) early.0 ∙ ap (λ (l : List (List ℕ)). b.before ++ l) late.0 ∙ sym b.all, late.1)
+
+-- the same, where the next step is known to follow upon what came
+behind_known : {A B : Type 0} (first : CommandStep A) (next : A → CommandStep B) → ((a : A) (asked : List (List ℕ)) → first asked (Ok a) → HasOneResult (next a))
+    → (between : Result A Reason) (before asked names : List (List ℕ)) (one other : Result B Reason) → first before between
+    → Follows between next asked one → Follows between next names other → IsFound one → IsFound other → (asked ≡ names) × (one ≡ other)
+behind_known first next ones (Ok a) before asked names one other is x y sure certain = ones a before is asked names one other x y sure certain
+behind_known first next ones (Err reason) before asked names one other is x y sure certain = (x.0 ∙ sym y.0, x.1 ∙ sym y.1)
+
+pub one_then_of : {A B : Type 0} (first : CommandStep A) (next : A → CommandStep B) → HasOneResult first → ((a : A) (asked : List (List ℕ)) → first asked (Ok a) → HasOneResult (next a)) → HasOneResult (Then first next)
+one_then_of {A} {B} first next ones after asked names one other a b sure certain =
+    let early = ones a.before b.before a.between b.between a.is b.is (found_before next a.between a.behind one a.follows sure) (found_before next b.between b.behind other b.follows certain) in
+    let y : Follows a.between next b.behind other = rw (← early.1) at b.follows in
+    let late = behind_known first next after a.between a.before a.behind b.behind one other a.is a.follows y sure certain in
     (a.all ∙ ap (λ (l : List (List ℕ)). l ++ a.behind) early.0 ∙ ap (λ (l : List (List ℕ)). b.before ++ l) late.0 ∙ sym b.all, late.1)

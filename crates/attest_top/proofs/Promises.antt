@@ -12,7 +12,7 @@ use Rattle.executable_commands.specs.Plans.{show_plan}
 use Rattle.message_commands.specs.Plans.{verify_plan}
 use Rattle.attest_top.specs.declared.status.Status.{Status}
 use Rattle.attest_top.specs.declared.status.Status.TheVariants.{Good, Rejected, Usage, BadInput, OutsideFault, Full, Memory}
-use Rattle.attest_top.specs.Lines.{Form, script, asm, show, challenge, verify, usage_line, fault_line, no_memory_line}
+use Rattle.attest_top.specs.Lines.{Form, script, asm, show, challenge, verify, image, sched, usage_line, fault_line, no_memory_line}
 use Rattle.attest_top.specs.Moments.{StreamView, Moment, NoCountFell, NoCountRose}
 use Rattle.attest_top.specs.Found.{IsFound}
 use Rattle.attest_top.specs.Plans.{misused, planned, command_plan, IsPlanFor}
@@ -23,8 +23,8 @@ use Rattle.attest_top.specs.Promise.{ReadsInput, LeavesFiles, Promise}
 use Rattle.attest_top.specs.Prepared.{PreparesNoFiles, ScriptFound, ReadsScript, Prepares}
 use Rattle.attest_top.proofs.Becomes.{said_later, said_quiet, said_cause, writes_cause, writes_quietly, writes_later, writes_status, wrote_all, WroteAll}
 use Rattle.attest_top.proofs.Kept.{others_kept}
-use Rattle.attest_top.proofs.OneResult.{one_result}
-use Rattle.attest_top.proofs.Headlines.{script_tells, asm_tells, show_tells, no_files_shown, challenge_tells, verify_tells, no_files_verified}
+use Rattle.attest_top.proofs.OneResult.{OnePlanEach}
+use Rattle.attest_top.proofs.Headlines.{script_tells, asm_tells, show_tells, no_files_shown, challenge_tells, verify_tells, no_files_verified, image_tells, sched_tells}
 
 -- ---- the counts behind reading
 
@@ -52,6 +52,8 @@ ReadsFiles (asm text elf) = Unit {0}
 ReadsFiles (show elf) = Unit {0}
 ReadsFiles (challenge key asked out) = Unit {0}
 ReadsFiles (verify verifier report noted) = Unit {0}
+ReadsFiles (image device out) = Unit {0}
+ReadsFiles (sched device schedule) = Unit {0}
 
 failed_counts : (form : Form) (old mid : FilesView) (input left : StreamView) → ReadsFiles form → FaultCountRose old.faults mid.faults → left.faults ≡ input.faults → ReadCounts form (Err failed) old mid input left
 failed_counts script old mid input left reads rose same = absurd reads
@@ -59,6 +61,8 @@ failed_counts (asm text elf) old mid input left reads rose same = (rose, same)
 failed_counts (show elf) old mid input left reads rose same = (rose, same)
 failed_counts (challenge key asked out) old mid input left reads rose same = (rose, same)
 failed_counts (verify verifier report noted) old mid input left reads rose same = (rose, same)
+failed_counts (image device out) old mid input left reads rose same = (rose, same)
+failed_counts (sched device schedule) old mid input left reads rose same = (rose, same)
 
 file_counts : (form : Form) (came : Result Written Reason) (old mid : FilesView) (input left : StreamView) → ReadsFiles form → CountsCame came old.held old.faults mid.faults → left ≡ input
     → ReadCounts form came old mid input left
@@ -104,6 +108,8 @@ prepared (asm text elf) result old mid input left found = from_files (asm text e
 prepared (show elf) result old mid input left found = from_files (show elf) result old mid input left tt found.0 found.1
 prepared (challenge key asked out) result old mid input left found = from_files (challenge key asked out) result old mid input left tt found.0 found.1
 prepared (verify verifier report noted) result old mid input left found = from_files (verify verifier report noted) result old mid input left tt found.0 found.1
+prepared (image device out) result old mid input left found = from_files (image device out) result old mid input left tt found.0 found.1
+prepared (sched device schedule) result old mid input left found = from_files (sched device schedule) result old mid input left tt found.0 found.1
 
 -- ---- the counts after the call
 
@@ -141,6 +147,8 @@ failed_cause (asm text elf) before after mid same counts = rw (← ap (λ (f : F
 failed_cause (show elf) before after mid same counts = rw (← ap (λ (f : FilesView). f.faults) same) at counts.0
 failed_cause (challenge key asked out) before after mid same counts = rw (← ap (λ (f : FilesView). f.faults) same) at counts.0
 failed_cause (verify verifier report noted) before after mid same counts = rw (← ap (λ (f : FilesView). f.faults) same) at counts.0
+failed_cause (image device out) before after mid same counts = rw (← ap (λ (f : FilesView). f.faults) same) at counts.0
+failed_cause (sched device schedule) before after mid same counts = rw (← ap (λ (f : FilesView). f.faults) same) at counts.0
 
 -- why a fault was told
 cause_of : (form : Form) (came : Result Written Reason) (status : Status) (before after : Moment) (mid : FilesView) → (IsErrCame came → after.files ≡ mid)
@@ -188,6 +196,8 @@ read_later (asm text elf) (Err failed) old mid input left counts = (counts.0.0, 
 read_later (show elf) (Err failed) old mid input left counts = (counts.0.0, omega (arith, counts.1))
 read_later (challenge key asked out) (Err failed) old mid input left counts = (counts.0.0, omega (arith, counts.1))
 read_later (verify verifier report noted) (Err failed) old mid input left counts = (counts.0.0, omega (arith, counts.1))
+read_later (image device out) (Err failed) old mid input left counts = (counts.0.0, omega (arith, counts.1))
+read_later (sched device schedule) (Err failed) old mid input left counts = (counts.0.0, omega (arith, counts.1))
 
 later_of : (form : Form) (came : Result Written Reason) (status : Status) (before after : Moment) (mid : FilesView) → (IsErrCame came → after.files ≡ mid)
     → ReadCounts form came before.files mid before.input after.input → ComesTo (planned came) status before after → NoCountFell before after
@@ -223,12 +233,12 @@ meant_alike : (came found : Result Written Reason) (status : Status) → (IsFoun
 meant_alike came found status same (inl both) = inl (both.1 ∙ ap status_meant (same both.0))
 meant_alike came found status same (inr none) = inr none
 
-complete_of : (form : Form) (came : Result Written Reason) (names : List (List ℕ)) (status : Status) (before after : Moment)
+complete_of : OnePlanEach → (form : Form) (came : Result Written Reason) (names : List (List ℕ)) (status : Status) (before after : Moment)
     → command_plan form before.files.held before.input.bytes names came → ComesTo (planned came) status before after
     → (status ≡ OutsideFault → HasCause (Some form) (planned came) before after) → IsComplete (Some form) status before after
-complete_of form came names status before after is comes cause = λ held text asked found tells says plan sure nothing.
+complete_of one form came names status before after is comes cause = λ held text asked found tells says plan sure nothing.
     let mine : command_plan form (Some held) (Some text) names came = rw (tells, says) at is in
-    meant_alike came found status (λ mine_found. (one_result form held text names asked came found mine plan mine_found sure).1) (status_found form came status before after comes cause nothing)
+    meant_alike came found status (λ mine_found. (one form held text names asked came found mine plan mine_found sure).1) (status_found form came status before after comes cause nothing)
 
 -- ---- what has been written
 
@@ -257,6 +267,8 @@ headline_wrote (asm text elf) result w names status before after mid is found pl
 headline_wrote (show elf) result w names status before after mid is found plan done = λ all. show_tells elf names w status before after plan done
 headline_wrote (challenge key asked out) result w names status before after mid is found plan done = λ all. challenge_tells key asked out names w status before after plan done
 headline_wrote (verify verifier report noted) result w names status before after mid is found plan done = λ all. verify_tells verifier report noted names w status before after plan done
+headline_wrote (image device out) result w names status before after mid is found plan done = λ all. image_tells device out names w status before after plan done
+headline_wrote (sched device schedule) result w names status before after mid is found plan done = λ all. sched_tells device schedule names w status before after plan done
 
 headline_given : (form : Form) (status : Status) (before after : Moment) → (AllWritten status → Headline (Some form) status before after) → Headline (Some form) status before after
 headline_given script status before after given = λ all. given all all
@@ -264,6 +276,8 @@ headline_given (asm text elf) status before after given = λ all. given all all
 headline_given (show elf) status before after given = λ all. given all all
 headline_given (challenge key asked out) status before after given = λ all. given all all
 headline_given (verify verifier report noted) status before after given = λ all. given all all
+headline_given (image device out) status before after given = λ all. given all all
+headline_given (sched device schedule) status before after given = λ all. given all all
 
 headline_of : (form : Form) (result : Result Written Stop) (names : List (List ℕ)) (status : Status) (before after : Moment) (mid : FilesView)
     → Prepares form result before.files mid before.input after.input → command_plan form before.files.held before.input.bytes names (came_of (λ w. w) result)
@@ -290,6 +304,8 @@ input_of (asm text elf) result old mid input left found = found.1
 input_of (show elf) result old mid input left found = found.1
 input_of (challenge key asked out) result old mid input left found = found.1
 input_of (verify verifier report noted) result old mid input left found = found.1
+input_of (image device out) result old mid input left found = found.1
+input_of (sched device schedule) result old mid input left found = found.1
 
 -- ---- files
 
@@ -315,12 +331,14 @@ leaves_files (show elf) result names old mid now input left found plan idle = ap
 leaves_files (challenge key asked out) result names old mid now input left found plan idle = tt
 leaves_files (verify verifier report noted) result names old mid now input left found plan idle =
     ap (λ (f : FilesView). f.held) (idle (verify_files verifier report noted result names old.held plan)) ∙ found.0.same
+leaves_files (image device out) result names old mid now input left found plan idle = tt
+leaves_files (sched device schedule) result names old mid now input left found plan idle = tt
 
-pub promise_kept : (form : Form) (result : Result Written Stop) (status : Status) (before after : Moment) (mid : FilesView)
+pub promise_kept : OnePlanEach → (form : Form) (result : Result Written Stop) (status : Status) (before after : Moment) (mid : FilesView)
     → Prepares form result before.files mid before.input after.input → ComesTo (planned (came_of (λ w. w) result)) status (record before { files = mid }) after
     → after.files.asked ≡ mid.asked → (PreparesNoFiles result → after.files ≡ mid) → Promise (Some form) before after status
 unfolding IsPlanFor
-promise_kept form result status before after mid found comes asked idle =
+promise_kept one form result status before after mid found comes asked idle =
     let came : Result Written Reason = came_of (λ (w : Written). w) result in
     let p = prepared form result before.files mid before.input after.input found in
     let became = from_start form came status before after mid p.held p.counts comes in
@@ -334,7 +352,7 @@ promise_kept form result status before after mid found comes asked idle =
       comes = became;
       cause = cause;
       unfailed = unfailed_of form came status before after mid none p.counts became;
-      complete = complete_of form came p.names status before after p.comes became cause;
+      complete = complete_of one form came p.names status before after p.comes became cause;
       headline = headline_of form result p.names status before after mid found p.comes became;
       input = input_of form result before.files mid before.input after.input found;
       others = others_kept (planned came) status before after became;

@@ -11,6 +11,8 @@ pub data Form : Type 0 where
   show : List ℕ → Form
   challenge : List ℕ → Challenge → List ℕ → Form
   verify : List ℕ → List ℕ → Option (List ℕ) → Form
+  image : List ℕ → List ℕ → Form
+  sched : List ℕ → List ℕ → Form
 
 -- a file name is a word of 1 to 255 bytes
 abbrev pub is_file_name : List ℕ → Bool
@@ -24,12 +26,14 @@ script_form verb = if bytes_eq verb (codes "script") then Some script else None
 abbrev pub show_form : List ℕ → List ℕ → Option Form
 show_form verb elf = if bytes_eq verb (codes "show") && is_file_name elf then Some (show elf) else None
 
--- `asm TEXT ELF` and `verify VERIFIER REPORT`
+-- `asm TEXT ELF`, `verify VERIFIER REPORT`, `image DEVICE OUT` and `sched DEVICE SCHEDULE`
 abbrev pub two_files_form : List ℕ → List ℕ → List ℕ → Option Form
 two_files_form verb one other =
     if not (is_file_name one && is_file_name other) then None
     else if bytes_eq verb (codes "asm") then Some (asm one other)
     else if bytes_eq verb (codes "verify") then Some (verify one other None)
+    else if bytes_eq verb (codes "image") then Some (image one other)
+    else if bytes_eq verb (codes "sched") then Some (sched one other)
     else None
 
 -- `verify VERIFIER REPORT NOTE`

@@ -8,11 +8,12 @@ use Rattle.command_plans.specs.Reading.{input_limit, ReadInput}
 use Rattle.command_plans.specs.Written.{Written}
 use Rattle.executable_commands.specs.Plans.{asm_plan, show_plan}
 use Rattle.message_commands.specs.Plans.{challenge_plan, verify_plan}
+use Rattle.device_commands.specs.Plans.{image_plan, sched_plan}
 use Rattle.script.specs.Programs.{Program}
 use Rattle.script.specs.Grammar.{program_of}
 use Rattle.script.specs.Steps.{meets_full}
 use Rattle.script.specs.Printed.{printed}
-use Rattle.attest_top.specs.Lines.{Form, script, asm, show, challenge, verify}
+use Rattle.attest_top.specs.Lines.{Form, script, asm, show, challenge, verify, image, sched}
 use Rattle.attest_top.specs.Moments.{Moment}
 
 -- What is to be done: nothing, since the words are in no form; or this is to be written, or nothing for this reason.
@@ -45,6 +46,8 @@ command_plan (asm text elf) files input = asm_plan text elf files
 command_plan (show elf) files input = show_plan elf files
 command_plan (challenge key asked out) files input = challenge_plan key asked out files
 command_plan (verify verifier report note) files input = verify_plan verifier report note files
+command_plan (image device out) files input = image_plan device out files
+command_plan (sched device schedule) files input = sched_plan device schedule files
 
 -- the plans that a command line may have, each with the names that are asked for to find it
 unfoldable pub IsPlanFor : Option Form → Moment → List (List ℕ) → Plan → Type 0

@@ -12,8 +12,8 @@ use Rattle.script.specs.Programs.{Program}
 use Rattle.script.specs.Grammar.{program_of}
 use Rattle.script.specs.Attested.{IsAttested, IsReleased}
 use Rattle.attest_top.specs.declared.command.Kind.{Kind}
-use Rattle.attest_top.specs.declared.command.Kind.TheVariants.{Script, Asm, Show, Challenge, Verify}
-use Rattle.attest_top.specs.Lines.{Form, script, asm, show, challenge, verify}
+use Rattle.attest_top.specs.declared.command.Kind.TheVariants.{Script, Asm, Show, Challenge, Verify, Image, Sched}
+use Rattle.attest_top.specs.Lines.{Form, script, asm, show, challenge, verify, image, sched}
 use Rattle.attest_top.specs.Moments.{StreamView}
 use Rattle.attest_top.specs.Plans.{script_output, script_plan, command_plan}
 
@@ -24,6 +24,8 @@ form_meant (Asm text elf) = asm text.now elf.now
 form_meant (Show elf) = show elf.now
 form_meant (Challenge key asked out) = challenge key.now asked out.now
 form_meant (Verify verifier report note) = verify verifier.now report.now (option_copied note)
+form_meant (Image device out) = image device.now out.now
+form_meant (Sched device schedule) = sched device.now schedule.now
 
 -- the names of a command are names of files, and the challenge that it asks for is valid
 abbrev pub HasFileNames : Kind → Type 0
@@ -32,6 +34,8 @@ HasFileNames (Asm text elf) = IsName text.now × IsName elf.now
 HasFileNames (Show elf) = IsName elf.now
 HasFileNames (Challenge key asked out) = IsName key.now × IsName out.now × IsChallenge asked
 HasFileNames (Verify verifier report note) = IsName verifier.now × IsName report.now × ForSome note (λ name. IsName name.now)
+HasFileNames (Image device out) = IsName device.now × IsName out.now
+HasFileNames (Sched device schedule) = IsName device.now × IsName schedule.now
 
 -- what was prepared writes no file
 abbrev pub PreparesNoFiles : Result Written Stop → Type 0

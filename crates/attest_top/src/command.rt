@@ -37,6 +37,16 @@ pub enum Kind<'a> {
         report: &'a str,
         note: Option<&'a str>,
     },
+    /// Write the attested bytes of a device's memory as it begins.
+    Image {
+        device: &'a str,
+        out: &'a str,
+    },
+    /// Run a device under a schedule.
+    Sched {
+        device: &'a str,
+        schedule: &'a str,
+    },
 }
 
 /// A command. Clauses see its form; its names are names of files, and what it asks for is a valid challenge.
@@ -78,7 +88,7 @@ fn show<'a>(verb: &str, elf: &'a str) -> Option<Command<'a>>
     None
 }
 
-// `asm TEXT ELF` and `verify VERIFIER REPORT`
+// `asm TEXT ELF`, `verify VERIFIER REPORT`, `image DEVICE OUT` and `sched DEVICE SCHEDULE`
 fn two_files<'a>(verb: &str, one: &'a str, other: &'a str) -> Option<Command<'a>>
     ensures { result ≡ two_files_form verb.now one.now other.now }
 {
@@ -94,6 +104,14 @@ fn two_files<'a>(verb: &str, one: &'a str, other: &'a str) -> Option<Command<'a>
             verifier: one,
             report: other,
             note: None,
+        },
+        "image" => Kind::Image {
+            device: one,
+            out: other,
+        },
+        "sched" => Kind::Sched {
+            device: one,
+            schedule: other,
         },
         _ => return None,
     };

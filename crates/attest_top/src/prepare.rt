@@ -6,7 +6,8 @@ ghost use Rattle.attest_top.specs.Prepared.{Prepares};
 use crate::command::{Command, Kind};
 use crate::scripts::prepare_script;
 use att_base::{Files, Source};
-use command_plans::{NoParts, Output, Stop};
+use command_plans::{Output, Stop};
+use device_commands::{TraceParts, prepare_image, prepare_sched};
 use executable_commands::{Listed, prepare_asm, prepare_show};
 use message_commands::{prepare_challenge, prepare_verify};
 use std::alloc::Global;
@@ -18,7 +19,7 @@ pub fn prepare<F: Files, S: Source>(
     command: Command<'_>,
     files: &mut F,
     input: &mut S,
-) -> Result<Output<Listed, NoParts>, Stop>
+) -> Result<Output<Listed, TraceParts>, Stop>
     ensures { Prepares command.entry result (F.shows files.old) (F.shows files.new) (stream_view (S.left input.old) (S.faults input.old)) (stream_view (S.left input.new) (S.faults input.new)) }
 {
     match command.kind {
@@ -31,5 +32,7 @@ pub fn prepare<F: Files, S: Source>(
             report,
             note,
         } => prepare_verify(alloc, files, verifier, report, note),
+        Kind::Image { device, out } => prepare_image(alloc, files, device, out),
+        Kind::Sched { device, schedule } => prepare_sched(alloc, files, device, schedule),
     }
 }

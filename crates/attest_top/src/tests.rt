@@ -40,8 +40,16 @@ const NOTE: &[u8] =
 const VERIFIER: &str =
     "base = 0x80000000\nblock = 16\nblocks = 4\nfirst = 0\nattested = 4\nlast = 8\nkey = \"key.bin\"\nchallenge = \"sent\"\nimages = [\"other.img\", \"good.img\"]\n";
 
+// A device that runs the executable of the two lines; its first and its third block are attested.
+const DEVICE: &str =
+    "base = 0x80000000\nblock = 16\nblocks = 4\nranges = [[0, 1], [2, 1]]\nkey = \"none\"\nlast = 0\ncap = 16\ntrace = \"trace\"\n[[app]]\nfile = \"words.elf\"\nconsole = \"console\"\nstack = 0\nfuel = 1\n";
+
+// A device with the same application, for one instruction; its trace is `main.elf`.
+const RUN: &str =
+    "base = 0x80000000\nblock = 16\nblocks = 4\nfirst = 0\nattested = 4\nkey = \"key.bin\"\nlast = 0\ncap = 16\ntrace = \"main.elf\"\n[[app]]\nfile = \"words.elf\"\nconsole = \"console\"\nstack = 0\nfuel = 1\n";
+
 // A command: its words, the status, and what goes to standard output and standard error where nothing fails; how many files
-// it reads, the name that it writes (none: `-`), and how many bytes it has then.
+// it reads, the name that it writes first (none: `-`), and how many bytes it has then, and after the first piece.
 #[derive(Clone, Copy)]
 struct Case {
     line: &'static str,
@@ -51,9 +59,10 @@ struct Case {
     reads: u64,
     name: &'static str,
     count: usize,
+    first: usize,
 }
 
-const CASES: [Case; 5] = [
+const CASES: [Case; 7] = [
     Case {
         line: "script",
         status: Status::Full,
@@ -62,6 +71,7 @@ const CASES: [Case; 5] = [
         reads: 0,
         name: "-",
         count: 0,
+        first: 0,
     },
     Case {
         line: "asm main.s main.elf",
@@ -71,6 +81,7 @@ const CASES: [Case; 5] = [
         reads: 1,
         name: "main.elf",
         count: 96,
+        first: 96,
     },
     Case {
         line: "show words.elf",
@@ -80,6 +91,27 @@ const CASES: [Case; 5] = [
         reads: 1,
         name: "-",
         count: 0,
+        first: 0,
+    },
+    Case {
+        line: "image device main.elf",
+        status: Status::Good,
+        printed: "",
+        said: "",
+        reads: 2,
+        name: "main.elf",
+        count: 32,
+        first: 32,
+    },
+    Case {
+        line: "sched run schedule",
+        status: Status::Good,
+        printed: "app 1 fuel\nwaits 1 0\nentries 1\n",
+        said: "",
+        reads: 4,
+        name: "main.elf",
+        count: 202,
+        first: 174,
     },
     Case {
         line: "challenge key.bin dec 100 0 7 000102030405060708090A0b0c0d0e0f main.elf",
@@ -89,6 +121,7 @@ const CASES: [Case; 5] = [
         reads: 1,
         name: "main.elf",
         count: 72,
+        first: 72,
     },
     Case {
         line: "verify verifier report note",
@@ -98,6 +131,7 @@ const CASES: [Case; 5] = [
         reads: 7,
         name: "-",
         count: 0,
+        first: 0,
     },
 ];
 
@@ -130,6 +164,9 @@ fn files_of(alloc: Global, fails: u64) -> Result<MemFiles, AllocError> {
         ("other.img", &[b'a'; 64]),
         ("good.img", &[0; 64]),
         ("verifier", VERIFIER.as_bytes()),
+        ("device", DEVICE.as_bytes()),
+        ("run", RUN.as_bytes()),
+        ("schedule", b"1 1\n"),
         ("main.elf", b"old"),
     ] {
         list.push(NamedFile::copied(alloc, name, bytes)?)?;
@@ -197,13 +234,13 @@ fn each_command_prints(rt: HostRuntime) -> Result<(), Fail> {
     Ok(())
 }
 
-// Each call on files fails in turn, the reads, the clearing, and the append, which has written half of its piece; and then
+// Each call on files fails in turn, the reads, the clearing, and the first append, which has written half of its piece; and then
 // standard error fails at its second call.
 fn expect_file_faults(rt: &impl Abort, alloc: Global, case: Case) -> Result<(), AllocError> {
     let writes = if case.name == "-" { 0 } else { 2 };
     for call in 0..case.reads.saturating_add(writes) {
         let count = if call > case.reads {
-            Some(case.count / 2)
+            Some(case.first / 2)
         } else {
             None
         };

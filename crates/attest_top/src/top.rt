@@ -7,6 +7,7 @@ ghost use Rattle.attest_top.specs.Promise.{Promise};
 use crate::Status;
 use crate::command::parse;
 use crate::finish::{finish, say_usage};
+use crate::laws::one_plan;
 use crate::prepare::prepare;
 use att_base::{Files, Sink, Source, Words};
 use std::alloc::Global;
@@ -28,6 +29,7 @@ pub fn attest_still<F: Files, S: Source, O: Sink, E: Sink>(
         let after : Moment = record { files = F.shows files.new; input = stream_view (S.left input.new) (S.faults input.new); out = stream_view (O.held out.new) (O.faults out.new); err = stream_view (E.held err.new) (E.faults err.new) } in
         Promise (command_of words.now) before after result }
 {
+    one_plan();
     let Some(command) = parse(words) else {
         return say_usage(err);
     };

@@ -31,5 +31,5 @@ returns g c =
     } in
     let form = c.in-Some.command in
     let some : command_of c.args.words.now ≡ Some form = cc c.in-Some.ensures in
-    rw some (promise_kept form c.prepare-prepared.result c.finish.result before after mid c.prepare-prepared.ensures
+    rw some (promise_kept c.one_plan.ensures form c.prepare-prepared.result c.finish.result before after mid c.prepare-prepared.ensures
     (c.finish.ensures.comes before.input after.input) c.finish.ensures.asked c.finish.ensures.none)
