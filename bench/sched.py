@@ -1,0 +1,76 @@
+#!/usr/bin/env python3
+"""Times `attest sched` on a device of eight applications that count in memory, and two challenges, trace file and all.
+
+Usage: sched.py PROGRAM [LOOPS]   (LOOPS is how often each application loops in the longest run, 67,000 unless given)
+
+Each loop is seven entries. Prints, for each length, the entries, the seconds of the best of three runs, entries a second and
+the greatest resident memory in KiB. Linear growth shows as seconds that double.
+"""
+import os
+import subprocess
+import sys
+import tempfile
+import time
+
+APPS = 8
+
+
+def text(k, loops):
+    return (
+        f".segment 0x{0x80000000 + 256 * k:08x}\n.entry main\nmain: lui t0, 0x{0x80010 + k:05x}\n li t1, {loops}\n"
+        "loop: lw t2, 0(t0)\n addi t2, t2, 1\n sw t2, 0(t0)\n addi t1, t1, -1\n bnez t1, loop\n li a7, 93\n li a0, 0\n ecall\n"
+    )
+
+
+def device():
+    apps = "".join(f'[[app]]\nfile = "{k}.elf"\nconsole = "{k}.out"\nstack = 0\nfuel = 1000000\n' for k in range(APPS))
+    sent = "".join(f'[[challenge]]\nfile = "{c}.challenge"\nreport = "{c}.report"\nnote = "{c}.note"\n' for c in (1, 2))
+    return (
+        "base = 0x80000000\nblock = 256\nblocks = 4096\nfirst = 0\nattested = 512\nkey = \"key\"\nlast = 0\ncap = 4000000\n"
+        "trace = \"trace\"\n" + apps + sent
+    )
+
+
+def run(program, *words):
+    subprocess.run([program, *words], stdout=subprocess.DEVNULL, check=True)
+
+
+def write(name, content):
+    with open(name, "w") as file:
+        file.write(content)
+
+
+def timed(program):
+    """The seconds, the resident memory and the entries of one run. Status 1 is a report of memory that is no known image."""
+    begun = time.perf_counter()
+    child = subprocess.Popen([program, "sched", "device", "schedule"], stdout=subprocess.PIPE, text=True)
+    said = child.stdout.read()
+    _, status, usage = os.wait4(child.pid, 0)
+    spent = time.perf_counter() - begun
+    child.returncode = os.waitstatus_to_exitcode(status)
+    assert child.returncode in (0, 1), said
+    return spent, usage.ru_maxrss, int(said.split()[-1])
+
+
+def main():
+    program = os.path.abspath(sys.argv[1])
+    most = int(sys.argv[2]) if len(sys.argv) > 2 else 67_000
+    nonce = "000102030405060708090a0b0c0d0e0f"
+    with tempfile.TemporaryDirectory() as folder:
+        os.chdir(folder)
+        write("key", "key")
+        write("schedule", "")
+        write("device", device())
+        run(program, "challenge", "key", "dec", "4000", "0", "1", nonce, "1.challenge")
+        run(program, "challenge", "key", "inc-ext", "100", "50", "2", nonce, "2.challenge")
+        for loops in (most // 4, most // 2, most):
+            for k in range(APPS):
+                write(f"{k}.s", text(k, loops))
+                run(program, "asm", f"{k}.s", f"{k}.elf")
+            runs = [timed(program) for _ in range(3)]
+            best, entries = min(r[0] for r in runs), runs[0][2]
+            print(f"{entries:8} entries  {best:.3f} s  {entries / best:,.0f} a second  {max(r[1] for r in runs)} KiB")
+        os.chdir("/")
+
+
+main()
