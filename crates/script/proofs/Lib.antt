@@ -12,3 +12,4 @@ pub mod Midways
 pub mod Runs
 pub mod WentOn
 pub mod Pairs
+pub mod Ended

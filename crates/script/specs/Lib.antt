@@ -8,3 +8,4 @@ pub mod Printed
 pub mod Attested
 pub mod Tagging
 pub mod Running
+pub mod Ends

@@ -1,6 +1,9 @@
 //! Scripts: a memory and a list of steps as text, read and run on one thread.
 #![tactic(auto)]
 
+#[cfg(test)]
+mod end_tests;
+mod ends;
 mod laws;
 mod lines;
 mod reading;
@@ -11,6 +14,7 @@ mod tagger;
 #[cfg(test)]
 mod tests;
 
+pub use ends::{SCRIPT_LIMIT, ScriptEnd, run_script};
 pub use laws::{releases_tell, scripts_attest};
 pub use reading::{Draft, Refusal, ScriptError, read_script};
 pub use running::{Printed, run};
