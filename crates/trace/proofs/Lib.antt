@@ -8,3 +8,16 @@ pub mod Fronts
 pub mod Again
 pub mod Takes
 pub mod Stands
+pub mod Windows
+pub mod Stored
+pub mod Copies
+pub mod Openings
+pub mod Hashed
+pub mod SameRanges
+pub mod Confirms
+pub mod HeadTakes
+pub mod Begun
+pub mod Images
+pub mod Entries
+pub mod ImageTakes
+pub mod ReadAgain

@@ -25,7 +25,7 @@ use Rattle.trace.proofs.Unique.{regroup, same_front, number_front, digits_same, 
 abbrev pub IsLow : Range → Type 0
 IsLow r = (r.first ≤ 4096) × (r.attested ≤ 4096)
 
-ranges_low : (ranges : List Range) → AreApart ranges → last_end ranges ≤ 4096 → AllByRecursion IsLow ranges
+pub ranges_low : (ranges : List Range) → AreApart ranges → last_end ranges ≤ 4096 → AllByRecursion IsLow ranges
 ranges_low [] apart low = tt
 ranges_low (r ∷ []) apart low = ((omega (arith, low), omega (arith, low)), tt)
 ranges_low (r ∷ q ∷ more) apart low =
@@ -33,15 +33,15 @@ ranges_low (r ∷ q ∷ more) apart low =
     ((omega (arith, apart.1, rest.0.0), omega (arith, apart.1, rest.0.0)), rest)
 
 -- behind the ranges comes no digit
-ranges_begin : (ranges : List Range) (r : List ℕ) → (c : ℕ) × (t : List ℕ) × (10 ≤ digit_value c) × (flat_map range_pair ranges ++ 10 ∷ r ≡ c ∷ t)
+pub ranges_begin : (ranges : List Range) (r : List ℕ) → (c : ℕ) × (t : List ℕ) × (10 ≤ digit_value c) × (flat_map range_pair ranges ++ 10 ∷ r ≡ c ∷ t)
 ranges_begin [] r = (10, r, omega arith, refl)
 ranges_begin (q ∷ more) r = (32, drop 1 (flat_map range_pair (q ∷ more) ++ 10 ∷ r), omega arith, refl)
 
 -- a range before the others
-range_regroup : (q : Range) (more t : List ℕ) → (range_pair q ++ more) ++ t ≡ 32 ∷ (decimal q.first ++ 32 ∷ (decimal q.attested ++ (more ++ t)))
+pub range_regroup : (q : Range) (more t : List ℕ) → (range_pair q ++ more) ++ t ≡ 32 ∷ (decimal q.first ++ 32 ∷ (decimal q.attested ++ (more ++ t)))
 range_regroup q more t = append_assoc (range_pair q) more t ∙ ap (λ l. 32 ∷ l) (regroup 32 (decimal q.first) (decimal q.attested) (more ++ t))
 
-ranges_front : (xs ys : List Range) (r s : List ℕ) → AllByRecursion IsLow xs → AllByRecursion IsLow ys → flat_map range_pair xs ++ 10 ∷ r ≡ flat_map range_pair ys ++ 10 ∷ s → (xs ≡ ys) × (r ≡ s)
+pub ranges_front : (xs ys : List Range) (r s : List ℕ) → AllByRecursion IsLow xs → AllByRecursion IsLow ys → flat_map range_pair xs ++ 10 ∷ r ≡ flat_map range_pair ys ++ 10 ∷ s → (xs ≡ ys) × (r ≡ s)
 ranges_front [] [] r s p q h = (refl, ap (drop 1) h)
 ranges_front [] (y ∷ ys) r s p q h = let first : 10 ≡ 32 = ap (λ l. get_or l 0 0) h in absurd (omega (arith, first))
 ranges_front (x ∷ xs) [] r s p q h = let first : 32 ≡ 10 = ap (λ l. get_or l 0 0) h in absurd (omega (arith, first))
@@ -61,24 +61,24 @@ ranges_front (x ∷ xs) (y ∷ ys) r s p q h =
     (ap (λ z. z ∷ xs) range ∙ ap (λ z. y ∷ z) rest.0, rest.1)
 
 -- a layout's numbers are low
-block_low : (size : ℕ) → (exponent : ℕ) × (4 ≤ exponent) × (exponent ≤ 16) × (size ≡ 2 ^ exponent) → (1 ≤ size) × (size ≤ 65536)
+pub block_low : (size : ℕ) → (exponent : ℕ) × (4 ≤ exponent) × (exponent ≤ 16) × (size ≡ 2 ^ exponent) → (1 ≤ size) × (size ≤ 65536)
 block_low size is =
     let least : 0 ≤ is.0 = omega arith in
     let low : 2 ^ 0 ≤ 2 ^ is.0 = pow-le-pow_right {n = 2} (lit< tt) least in
     let high : 2 ^ is.0 ≤ 2 ^ 16 = pow-le-pow_right {n = 2} (lit< tt) is.2 in
     (omega (arith, low, is.3), omega (arith, high, is.3))
 
-base_low : (l : Layout) → IsLayout l → l.base < 2 ^ 32
+pub base_low : (l : Layout) → IsLayout l → l.base < 2 ^ 32
 base_low l v =
     let some : l.size * 1 ≤ l.size * l.blocks = mul-le-mul_left l.size v.some_block in
     omega (arith, some, (block_low l.size v.block_size).0, v.in_space)
 
-memory_regroup : (l : Layout) (r : List ℕ) → drop 7 (memory_line l ++ 10 ∷ r) ≡ word_digits l.base ++ 32 ∷ (decimal l.size ++ 32 ∷ (decimal l.blocks ++ 10 ∷ r))
+pub memory_regroup : (l : Layout) (r : List ℕ) → drop 7 (memory_line l ++ 10 ∷ r) ≡ word_digits l.base ++ 32 ∷ (decimal l.size ++ 32 ∷ (decimal l.blocks ++ 10 ∷ r))
 memory_regroup l r =
     regroup 32 ((word_digits l.base ++ 32 ∷ []) ++ decimal l.size) (decimal l.blocks) (10 ∷ r)
     ∙ regroup 32 (word_digits l.base) (decimal l.size) (32 ∷ (decimal l.blocks ++ 10 ∷ r))
 
-memory_front : (l m : Layout) (r s : List ℕ) → IsLayout l → IsLayout m → memory_line l ++ 10 ∷ r ≡ memory_line m ++ 10 ∷ s → (l ≡ m) × (r ≡ s)
+pub memory_front : (l m : Layout) (r s : List ℕ) → IsLayout l → IsLayout m → memory_line l ++ 10 ∷ r ≡ memory_line m ++ 10 ∷ s → (l ≡ m) × (r ≡ s)
 memory_front l m r s p q h =
     let same = sym (memory_regroup l r) ∙ ap (drop 7) h ∙ memory_regroup m s in
     let sizes = block_low l.size p.block_size in
@@ -91,7 +91,7 @@ memory_front l m r s p q h =
     let e3 = ap (λ (n : ℕ). let g : Layout = record { base = m.base; size = m.size; blocks = n } in g) blocks.0 in
     (e1 ∙ e2 ∙ e3, ap (drop 1) blocks.1)
 
-version_length : (ranges : List Range) → length (version_line ranges) ≡ 4
+pub version_length : (ranges : List Range) → length (version_line ranges) ≡ 4
 version_length ranges = four (length ranges == 1)
   where
     four : (one : Bool) → length (if one then codes "TMT1" else codes "TMT2") ≡ 4
@@ -99,7 +99,7 @@ version_length ranges = four (length ranges == 1)
     four false = refl
 
 -- the four lines of a head
-head_regroup : (w : Setting) (t : List ℕ) → text_of_lines (head_lines w) ++ t
+pub head_regroup : (w : Setting) (t : List ℕ) → text_of_lines (head_lines w) ++ t
     ≡ version_line w.ranges ++ 10 ∷ (memory_line w.layout ++ 10 ∷ (attest_line w.ranges ++ 10 ∷ (cap_line w.cap ++ 10 ∷ t)))
 unfolding head_lines
 head_regroup w t =
@@ -119,7 +119,7 @@ pub record SameHead (w u : Setting) (r s : List ℕ) : Type 0 where
   pub cap : w.cap ≡ u.cap
   pub rest : r ≡ s
 
-head_front : (w u : Setting) (r s : List ℕ) → IsSetting w → IsSetting u → text_of_lines (head_lines w) ++ r ≡ text_of_lines (head_lines u) ++ s → SameHead w u r s
+pub head_front : (w u : Setting) (r s : List ℕ) → IsSetting w → IsSetting u → text_of_lines (head_lines w) ++ r ≡ text_of_lines (head_lines u) ++ s → SameHead w u r s
 head_front w u r s p q h =
     let caps = cap_line w.cap ++ 10 ∷ r in
     let others = cap_line u.cap ++ 10 ∷ s in
@@ -132,7 +132,7 @@ head_front w u r s p q h =
     let cap = number_front w.cap u.cap 10 10 r s (omega (arith, p.few_entries)) (omega (arith, q.few_entries)) (omega arith) (omega arith) (ap (drop 4) ranges.1) in
     record { layout = memory.0; ranges = ranges.0; cap = cap.0; rest = ap (drop 1) cap.1 }
 
-bytes_of_all : (xs : List ℕ) → All (λ byte. byte < 256) xs → IsBytes xs
+pub bytes_of_all : (xs : List ℕ) → All (λ byte. byte < 256) xs → IsBytes xs
 bytes_of_all xs h i = elim (cases_lt i (length xs)) [
   | inl inside ↦ h i 0 inside
   | inr past ↦ rw (get_or_past xs i 0 past) (omega arith)
@@ -176,7 +176,7 @@ image_whole xs =
     let enough : length xs ≤ count * 32 = omega arith in
     pieces_whole xs 32 0 count ∙ take_all (count * 32) xs enough
 
-image_same : (xs ys : List ℕ) (r s : List ℕ) → All (λ byte. byte < 256) xs → All (λ byte. byte < 256) ys → length xs ≡ length ys → text_of_lines (image_lines xs) ++ r ≡ text_of_lines (image_lines ys) ++ s → (xs ≡ ys) × (r ≡ s)
+pub image_same : (xs ys : List ℕ) (r s : List ℕ) → All (λ byte. byte < 256) xs → All (λ byte. byte < 256) ys → length xs ≡ length ys → text_of_lines (image_lines xs) ++ r ≡ text_of_lines (image_lines ys) ++ s → (xs ≡ ys) × (r ≡ s)
 unfolding image_lines
 image_same xs ys r s p q same h =
     let count = chunk_count (length xs) 32 in

@@ -35,7 +35,7 @@ pub cond_opt : {A : Type 0} (b : Bool) (o : Option A) (y : A) → cond b o None 
 cond_opt true o y h = (refl, h)
 cond_opt false o y h = cc
 
-cond_none : {A : Type 0} (b : Bool) (o : Option A) (y : A) → cond b None o ≡ Some y → (b ≡ false) × (o ≡ Some y)
+pub cond_none : {A : Type 0} (b : Bool) (o : Option A) (y : A) → cond b None o ≡ Some y → (b ≡ false) × (o ≡ Some y)
 cond_none true o y h = cc
 cond_none false o y h = (refl, h)
 

@@ -11,8 +11,8 @@ ghost use Rattle.trace.specs.Reading.{text_behind, low_digit, digits_at, decimal
 use chronicle::{Act, Discipline, Entry, Width};
 use text_readers::{cut_at, plain_decimal};
 
-// The text behind a word that stands at its front.
-fn text_behind<'a>(word: &[u8], text: &'a [u8]) -> Option<&'a [u8]>
+/// The text behind a word that stands at its front.
+pub fn text_behind<'a>(word: &[u8], text: &'a [u8]) -> Option<&'a [u8]>
     ensures { option_map (λ rest. rest.now) result ≡ text_behind word.now text.now }
 {
     if !text.starts_with(word) {
@@ -33,8 +33,8 @@ fn low_digit(c: u8) -> u32
     }
 }
 
-// The number that so many digits at the front say, and the text behind them.
-fn digits_at(count: usize, text: &[u8]) -> Option<(u32, &[u8])>
+/// The number that so many lower-case hexadecimal digits at the front say, at most 8 of them, and the text behind them.
+pub fn digits_at(count: usize, text: &[u8]) -> Option<(u32, &[u8])>
     requires { count ≤ 8 }
     ensures value { option_map (λ found. (found.0, found.1.now)) result ≡ digits_at count 0 text.now }
 {
@@ -52,8 +52,8 @@ fn digits_at(count: usize, text: &[u8]) -> Option<(u32, &[u8])>
     Some((value, &text[count..]))
 }
 
-// A decimal number and the byte that ends it.
-fn decimal_at(end: u8, text: &[u8]) -> Option<(u64, &[u8])>
+/// A decimal number with no zero in front and the byte that ends it, and the text behind that byte.
+pub fn decimal_at(end: u8, text: &[u8]) -> Option<(u64, &[u8])>
     ensures { option_map (λ found. (found.0, found.1.now)) result ≡ decimal_at end text.now }
 {
     let (word, rest) = cut_at(end, text)?;

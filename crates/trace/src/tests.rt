@@ -3,6 +3,7 @@ use chronicle::{Discipline, Geometry, Range, Ranges, Width};
 use std::alloc::Global;
 use std::process::Abort;
 use std::test::Fail;
+use text_readers::{cut_at, plain_decimal};
 
 // Four blocks of 16 bytes from 80000000 on, all of them attested, with the same program in two of them.
 fn small_world(alloc: Global, cap: u64) -> Result<World, Fail> {
@@ -29,7 +30,7 @@ fn small_world(alloc: Global, cap: u64) -> Result<World, Fail> {
     Ok(world)
 }
 
-fn by(actor: u32, act: Act) -> Entry {
+pub fn by(actor: u32, act: Act) -> Entry {
     Entry { actor, act }
 }
 
@@ -41,18 +42,18 @@ fn load(addr: u32, width: Width, value: u32) -> Act {
     Act::Load { addr, width, value }
 }
 
-fn store(addr: u32, width: Width, value: u32) -> Act {
+pub fn store(addr: u32, width: Width, value: u32) -> Act {
     Act::Store { addr, width, value }
 }
 
-fn start(discipline: Discipline, counter: u64) -> Act {
+pub fn start(discipline: Discipline, counter: u64) -> Act {
     Act::Start {
         discipline,
         counter,
     }
 }
 
-fn copy(block: u32) -> Act {
+pub fn copy(block: u32) -> Act {
     Act::Copy { block }
 }
 
@@ -67,7 +68,7 @@ fn joined(rt: &(impl Abort + Alloc<A = Global>), kept: &Chronicle) -> Result<Vec
 }
 
 // Two programs that store a word each and end, and an Inc-Lock pass between their steps.
-fn example(alloc: Global) -> Result<Chronicle, Fail> {
+pub fn example(alloc: Global) -> Result<Chronicle, Fail> {
     let mut entries = Vec::new(alloc);
     entries.push(by(0, start(Discipline::Inc, 1)))?;
     entries.push(by(2, fetch(0x8000_0010, 0x0021_2023)))?;
@@ -189,6 +190,7 @@ fn each_rule_breaks(rt: HostRuntime) -> Result<(), Fail> {
         (&stored, by(2, load(0x8000_0030, Width::Word, 0)), 3),
         (&stored, by(2, load(0x8000_0032, Width::Half, 0x0304)), 3),
         (&pass, by(1, store(0x8000_0000, Width::Byte, 0)), 4),
+        (&pass, by(1, store(0x8000_0001, Width::Half, 0)), 2),
         (&[], by(0, copy(0)), 5),
         (&pass, by(0, copy(1)), 5),
         (&pass, by(0, Act::End), 5),
@@ -249,4 +251,118 @@ fn entries_are_read(rt: HostRuntime) -> Result<(), Fail> {
     one_trace();
     entries_are_read_again();
     Ok(())
+}
+
+// A text of a trace is that of what is read of it.
+fn expect_read(rt: &(impl Abort + Alloc<A = Global>), text: &[u8]) -> Result<(), Fail> {
+    match read(rt.alloc(), text) {
+        Ok(kept) => assert!(rt; joined(rt, &kept)?.as_slice() == text),
+        Err(fault) => assert!(rt; false, "{fault:?}"),
+    }
+    Ok(())
+}
+
+#[test]
+fn traces_are_read(rt: HostRuntime) -> Result<(), Fail> {
+    one_line_leaves();
+    expect_read(&rt, EXAMPLE)?;
+    expect_read(
+        &rt,
+        b"TMT2\nmemory ffffffd0 16 3\nattest 0 1 2 1\ncap 4000000\n5a5a5a5a5a5a5a5a5a5a5a5a5a5a5a5a5a5a5a5a5a5a5a5a5a5a5a5a5a5a5a5a\n0f0f0f0f0f0f0f0f0f0f0f0f0f0f0f0f\n0 tick\n8 end\nend 2\n".as_slice(),
+    )
+}
+
+// The line at which a text is refused; 0 stands for a trace.
+fn line_of(rt: &impl Alloc<A = Global>, text: &[u8]) -> u64 {
+    match read(rt.alloc(), text) {
+        Ok(_) => 0,
+        Err(TraceFault::Line(line)) => line,
+        Err(TraceFault::Memory) => 99_999,
+    }
+}
+
+// Rows of a line and a text, cut at bars: the text has the row's text behind this front, and is refused at that line; line 0
+// stands for a trace.
+fn expect_lines(
+    rt: &(impl Abort + Alloc<A = Global>),
+    front: &[u8],
+    rows: &[u8],
+) -> Result<(), Fail> {
+    let mut rows = rows;
+    for _ in 0..64 {
+        let Some((row, more)) = cut_at(b'|', rows) else {
+            return Ok(());
+        };
+        let (line, behind) = cut_at(b' ', row).ok_or("no line")?;
+        let line = plain_decimal(line).ok_or("no number")?;
+        let mut text = Vec::from_slice(rt.alloc(), front)?;
+        text.extend_from_slice(behind)?;
+        assert_eq!(rt; line_of(rt, &text), line);
+        rows = more;
+    }
+    Ok(())
+}
+
+#[test]
+fn first_lines_are_refused(rt: HostRuntime) -> Result<(), Fail> {
+    expect_lines(
+        &rt,
+        b"".as_slice(),
+        b"1 |1 TMT1|1 TMT3\n|1 tmt1\n|1 TMT1 \n|1 TMT1\r\n|1 \nTMT1\n|2 TMT1\n|2 TMT2\n|".as_slice(),
+    )
+}
+
+#[test]
+fn lines_of_memory_are_refused(rt: HostRuntime) -> Result<(), Fail> {
+    expect_lines(
+        &rt,
+        b"TMT1\nmemory ".as_slice(),
+        b"2 80000000 16 4|2 8000000 16 4\n|2 8000000A 16 4\n|2 80000000 24 4\n|2 80000000 8 4\n|2 80000000 131072 4\n|2 80000000 16 0\n|2 80000000 16 4097\n|2 80000000 512 4096\n|2 80000008 16 4\n|2 fffffff0 16 2\n|2 80000000 016 4\n|2 80000000 16 4 \n|2 80000000  16 4\n|3 fffffff0 16 1\n|3 80000000 256 4096\n|3 80000000 65536 16\n|".as_slice(),
+    )?;
+    expect_lines(
+        &rt,
+        b"TMT2\n".as_slice(),
+        b"2 memory 80000000 16 2\n|3 memory 80000000 16 3\n|".as_slice(),
+    )
+}
+
+#[test]
+fn lines_of_ranges_are_refused(rt: HostRuntime) -> Result<(), Fail> {
+    expect_lines(
+        &rt,
+        b"TMT1\nmemory 80000000 16 17\nattest ".as_slice(),
+        b"3 0 4|3 17 1\n|3 0 18\n|3 0 0\n|3 0\n|3 0 1 2 1\n|3 00 4\n|3 0 4 \n|3  0 4\n|3 4294967296 1\n|3 0 4097\n|4 0 17\n|4 16 1\n|".as_slice(),
+    )?;
+    expect_lines(
+        &rt,
+        b"TMT2\nmemory 80000000 16 17\nattest ".as_slice(),
+        b"3 0 4\n|3 0 1 1 1\n|3 2 1 0 1\n|3 0 1 2\n|3 0 1 2 16\n|3 0 1 2 1 4 1 6 1 8 1 10 1 12 1 14 1 16 1\n|4 0 1 2 1 4 1 6 1 8 1 10 1 12 1 14 3\n|4 0 1 2 15\n|".as_slice(),
+    )
+}
+
+#[test]
+fn lines_of_caps_are_refused(rt: HostRuntime) -> Result<(), Fail> {
+    expect_lines(
+        &rt,
+        b"TMT1\nmemory 80000000 16 4\nattest 0 4\n".as_slice(),
+        b"4 |4 cap 100|4 cap 0\n|4 cap 4000001\n|4 cap 01\n|4 cap \n|4 cap -1\n|4 cap 18446744073709551617\n|5 cap 4000000\n|5 cap 1\n|".as_slice(),
+    )
+}
+
+#[test]
+fn lines_of_images_are_refused(rt: HostRuntime) -> Result<(), Fail> {
+    expect_lines(
+        &rt,
+        b"TMT1\nmemory 80000000 16 3\nattest 0 3\ncap 1\n00000000000000000000000000000000000000000000000000000000000000".as_slice(),
+        b"5 |5 0\n|5 000\n|5 0A\n|5 0g\n|5 00|6 00\n|6 00\n000000000000000000000000000000|6 00\n0000000000000000000000000000000\n|6 00\n0000000000000000000000000000000F\n|6 00\n0000000000000000000000000000000000\n|7 00\n0000000000000000000000000000000f\n|0 0f\n0000000000000000000000000000000f\nend 0\n|".as_slice(),
+    )
+}
+
+#[test]
+fn lines_of_entries_are_refused(rt: HostRuntime) -> Result<(), Fail> {
+    expect_lines(
+        &rt,
+        b"TMT1\nmemory 80000000 16 4\nattest 0 4\ncap 1\n0000000000000000000000000000000000000000000000000000000000000000\n0000000000000000000000000000000000000000000000000000000000000000\n".as_slice(),
+        b"7 |7 0 tick|7 9 tick\n|8 0 tick\n9 tick\n|7 end 0|7 end 1\n|7 end 00\n|7 end\n|7 end 0 \n|8 end 0\n\n|8 end 0\nend 0\n|8 end 0\n |9 0 tick\n0 tick\n|9 0 tick\n0 tick\nend 1\n|9 0 tick\n0 tick\nend 3\n|10 0 tick\n0 tick\nend 2\n0|0 8 end\nend 1\n|0 0 tick\n0 tick\nend 2\n|".as_slice(),
+    )
 }

@@ -1,0 +1,13 @@
+use Rattle.std.proofs.Common.{◌+◌, ◌&&◌, Bool, drop, sym, ap, ◌∙◌}
+use Rattle.trace.specs.Confirm.{are_same_ranges}
+use Rattle.trace.proofs.SameRanges.{at_place, other_count}
+use Rattle.trace.proofs.confirm.are_same_ranges.Goals as goal
+
+pub returns-then-count : goal.returns-then-count
+returns-then-count c = sym (other_count c.args.a.now c.args.b.now (λ same. c.if-count.true (c.count.ensures.value ∙ same ∙ sym c.count-2.ensures.value)))
+
+pub returns-then-not-is_same_range : goal.returns-then-not-is_same_range
+returns-then-not-is_same_range c = sym (c.loop-k.invariant ∙ at_place c.args.a.now c.args.b.now c.loop-k.k c.range.result c.range-in-loop-k.result c.is_same_range.result c.range.ensures c.range-in-loop-k.ensures c.is_same_range.ensures ∙ ap (λ (here : Bool). here && are_same_ranges (drop (c.loop-k.k + 1) c.args.a.now) (drop (c.loop-k.k + 1) c.args.b.now)) c.if-not-is_same_range.true)
+
+pub loop-k-preserved : goal.loop-k-preserved
+loop-k-preserved c = c.loop-k.invariant ∙ at_place c.args.a.now c.args.b.now c.loop-k.k c.range.result c.range-in-loop-k.result c.is_same_range.result c.range.ensures c.range-in-loop-k.ensures c.is_same_range.ensures ∙ ap (λ (here : Bool). here && are_same_ranges (drop (c.loop-k.k + 1) c.args.a.now) (drop (c.loop-k.k + 1) c.args.b.now)) c.if-not-is_same_range.false
