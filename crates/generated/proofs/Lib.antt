@@ -1,0 +1,3 @@
+pub mod NextDraws
+pub mod Lists
+pub mod Setups

@@ -1,0 +1,4 @@
+pub mod Draws
+pub mod Applications
+pub mod Generated
+pub mod Parts
