@@ -4,3 +4,4 @@ pub mod RunNames
 pub mod RunSetups
 pub mod SoundPasses
 pub mod StoredValues
+pub mod WholeRuns

@@ -1,17 +1,22 @@
 -- The files that a run writes have different names, as the plan's have.
-use Rattle.std.proofs.Common.{◌≡◌, ℕ, Bool, true, false, not, List, [], ◌∷◌, ◌++◌, map, refl, sym, ap, ◌∙◌, subst, inl, inr}
-use Rattle.std.specs.Prelude.{◌&&◌, ◌||◌, bytes_eq}
-use Rattle.std.specs.List.{list_any}
+use Rattle.std.proofs.Common.{◌≡◌, ℕ, Bool, true, false, not, List, [], ◌∷◌, ◌++◌, Option, Some, None, Result, Ok, Err, refl, sym, ap, ◌∙◌, subst, inl, inr}
+use Rattle.std.specs.Prelude.{◌&&◌, ◌||◌, bytes_eq, codes}
 use Rattle.std.proofs.lemmas.Bool.{and_parts, or_cases, false≢true, not-true}
 use Rattle.std.proofs.lemmas.List.{map-append}
 use Rattle.std.proofs.lemmas.List.Folds.{list_any-append}
 use Rattle.std.proofs.lemmas.Slice.Eq.{bytes_eq-Decides}
 use Rattle.att_base.specs.Files.{NamedBytes}
+use Rattle.toml.specs.Data.{Members}
+use Rattle.sequencing.specs.Options.{when}
+use Rattle.config_rules.specs.declared.common.Common.{Common}
+use Rattle.config_rules.specs.Rules.{and_then, common, rule}
+use Rattle.config_rules.specs.Values.{document, name_at, number_at}
+use Rattle.device_config.specs.Arrays.{apps_at, challenges_at, images_at}
+use Rattle.device_config.specs.Files.{device_file, device_plan, device_rules}
 use Rattle.device_config.specs.declared.plans.AppPlan.{AppPlan}
 use Rattle.device_config.specs.declared.plans.ChallengePlan.{ChallengePlan}
 use Rattle.device_config.specs.declared.plans.DevicePlan.{DevicePlan}
 use Rattle.device_config.specs.Names.{is_among, all_different, consoles, reports, notes, output_names}
-use Rattle.device_config.specs.Plans.{IsDevicePlan}
 use Rattle.device.specs.declared.outcomes.AppEnd.{AppEnd}
 use Rattle.device.specs.declared.outcomes.Outcome.{Outcome}
 use Rattle.device_commands.specs.declared.ends.ChallengeEnd.{ChallengeEnd}
@@ -43,7 +48,7 @@ or_second : (a b : Bool) → b ≡ true → (a || b) ≡ true
 or_second true b is = refl
 or_second false b is = is
 
-neither : (a b : Bool) → (a || b) ≡ false → (a ≡ false) × (b ≡ false)
+pub neither : (a b : Bool) → (a || b) ≡ false → (a ≡ false) × (b ≡ false)
 neither true b is = absurd (false≢true (sym is))
 neither false b is = (refl, is)
 
@@ -216,12 +221,12 @@ answers_apart (plan ∷ plans) (end ∷ ends) differ =
 
 -- ---- all of them
 
-pub names_differ : (plan : DevicePlan) → IsDevicePlan plan → (ends : List ChallengeEnd) (outcome : Outcome) → all_different (names_of (run_files plan ends outcome)) ≡ true
+names_differ : (plan : DevicePlan) → all_different (output_names plan.trace plan.apps plan.challenges) ≡ true → (ends : List ChallengeEnd) (outcome : Outcome) → all_different (names_of (run_files plan ends outcome)) ≡ true
 unfolding run_files output_names
-names_differ plan is ends outcome =
+names_differ plan outputs ends outcome =
     let cs = consoles plan.apps in
     let rest = reports plan.challenges ++ notes plan.challenges in
-    let both = and_parts (not (is_among (cs ++ rest) plan.trace)) (all_different (cs ++ rest)) is.outputs in
+    let both = and_parts (not (is_among (cs ++ rest) plan.trace)) (all_different (cs ++ rest)) outputs in
     let split = parts_differ cs rest both.1 in
     let answers = answers_apart plan.challenges ends split.1 in
     let here = names_of (console_files plan.apps outcome.apps) in
@@ -237,3 +242,65 @@ names_differ plan is ends outcome =
     let whole : names_of (console_files plan.apps outcome.apps ++ answer_files plan.challenges ends) ≡ here ++ there =
     map-append (λ (file : NamedBytes). file.name) (console_files plan.apps outcome.apps) (answer_files plan.challenges ends) in
     subst (λ (l : List (List ℕ)). all_different (plan.trace ∷ l) ≡ true) (sym whole) (both_true (is_among (here ++ there) plan.trace) (all_different (here ++ there)) out joined)
+
+-- ---- names that a device file gives
+
+rule_found : {A B : Type 0} (number : ℕ) (found : Option A) (next : A → Result B ℕ) (b : B) → rule number found next ≡ Ok b → (a : A) × (found ≡ Some a) × (next a ≡ Ok b)
+rule_found number None next b is = absurd cc
+rule_found number (Some a) next b is = (a, refl, is)
+
+rules_passed : {A B : Type 0} (first : Result A ℕ) (next : A → Result B ℕ) (b : B) → and_then first next ≡ Ok b → (a : A) × (first ≡ Ok a) × (next a ≡ Ok b)
+rules_passed (Ok a) next b is = (a, refl, is)
+rules_passed (Err number) next b is = absurd cc
+
+found_by_test : {A : Type 0} (test : Bool) (value a : A) → when test value ≡ Some a → (test ≡ true) × (value ≡ a)
+found_by_test true value a is = (refl, cc)
+found_by_test false value a is = absurd cc
+
+abbrev plan_said : DevicePlan → Result DevicePlan ℕ
+plan_said plan = Ok plan
+
+same_plan : (plan other : DevicePlan) → plan_said plan ≡ plan_said other → plan ≡ other
+same_plan plan other is = cc
+
+found_differs : (found last plan : DevicePlan) → found ≡ last → plan_said last ≡ plan_said plan → all_different (output_names found.trace found.apps found.challenges) ≡ true
+    → all_different (output_names plan.trace plan.apps plan.challenges) ≡ true
+found_differs found last plan one other is = subst (λ (p : DevicePlan). all_different (output_names p.trace p.apps p.challenges) ≡ true) (one ∙ same_plan last plan other) is
+
+-- what is left of a device file's rules behind each of them
+abbrev behind_challenges : Common → ℕ → List ℕ → List (List ℕ) → List AppPlan → List ChallengePlan → Result DevicePlan ℕ
+behind_challenges shared cap trace images apps challenges =
+    rule 14 (when (all_different (output_names trace apps challenges)) (device_plan shared cap trace images apps challenges)) plan_said
+
+abbrev behind_apps : Common → Members → ℕ → List ℕ → List (List ℕ) → List AppPlan → Result DevicePlan ℕ
+behind_apps shared keys cap trace images apps = rule 13 (challenges_at keys) (behind_challenges shared cap trace images apps)
+
+abbrev behind_images : Common → Members → ℕ → List ℕ → List (List ℕ) → Result DevicePlan ℕ
+behind_images shared keys cap trace images = rule 12 (apps_at keys) (behind_apps shared keys cap trace images)
+
+abbrev behind_trace : Common → Members → ℕ → List ℕ → Result DevicePlan ℕ
+behind_trace shared keys cap trace = rule 11 (images_at keys) (behind_images shared keys cap trace)
+
+abbrev behind_cap : Common → Members → ℕ → Result DevicePlan ℕ
+behind_cap shared keys cap = rule 10 (name_at (codes "trace") keys) (behind_trace shared keys cap)
+
+rules_differ : (shared : Common) (keys : Members) (plan : DevicePlan) → device_rules shared keys ≡ Ok plan → all_different (output_names plan.trace plan.apps plan.challenges) ≡ true
+unfolding device_rules
+rules_differ shared keys plan is =
+    let cap = rule_found 9 (number_at (codes "cap") keys 16 4000000) (behind_cap shared keys) plan is in
+    let trace = rule_found 10 (name_at (codes "trace") keys) (behind_trace shared keys cap.0) plan cap.2 in
+    let images = rule_found 11 (images_at keys) (behind_images shared keys cap.0 trace.0) plan trace.2 in
+    let apps = rule_found 12 (apps_at keys) (behind_apps shared keys cap.0 trace.0 images.0) plan images.2 in
+    let challenges = rule_found 13 (challenges_at keys) (behind_challenges shared cap.0 trace.0 images.0 apps.0) plan apps.2 in
+    let test = all_different (output_names trace.0 apps.0 challenges.0) in
+    let found = device_plan shared cap.0 trace.0 images.0 apps.0 challenges.0 in
+    let last = rule_found 14 (when test found) plan_said plan challenges.2 in
+    let passed = found_by_test test found last.0 last.1 in
+    found_differs found last.0 plan passed.1 last.2 passed.0
+
+pub file_names_differ : (text : List ℕ) (plan : DevicePlan) → device_file text ≡ Ok plan → (ends : List ChallengeEnd) (outcome : Outcome) → all_different (names_of (run_files plan ends outcome)) ≡ true
+unfolding device_file
+file_names_differ text plan said ends outcome =
+    let members = rule_found 1 (document text) (λ found. and_then (common found) (λ shared. device_rules shared found)) plan said in
+    let shared = rules_passed (common members.0) (λ known. device_rules known members.0) plan members.2 in
+    names_differ plan (rules_differ shared.0 members.0 plan shared.2) ends outcome

@@ -1,5 +1,5 @@
 -- What the commands on devices are to do.
-use Rattle.std.specs.Prelude.{◌≡◌, ℕ, true, List, [], ◌∷◌, Option, Result, Ok, Err}
+use Rattle.std.specs.Prelude.{◌≡◌, ℕ, true, false, List, [], ◌∷◌, Option, Result, Ok, Err}
 use Rattle.att_base.specs.Files.{Contents}
 use Rattle.history.specs.Memory.{memory_after, attested_bytes}
 use Rattle.command_plans.specs.declared.output.Ending.TheVariants.{Accepted}
@@ -9,13 +9,16 @@ use Rattle.command_plans.specs.Written.{Written}
 use Rattle.device_config.specs.declared.plans.DevicePlan.{DevicePlan}
 use Rattle.device.specs.declared.outcomes.Outcome.{Outcome}
 use Rattle.device.specs.Setups.{Setup, setup_of}
+use Rattle.device.specs.Runs.{IsRunOf, entries_of}
+use Rattle.device.specs.Outcomes.{AreAppEnds, ArePassEnds, acts_of}
+use Rattle.device.specs.Threads.{AreWaitsIn}
 use Rattle.sched.specs.Scheduled.{IsScheduledOutcome}
 use Rattle.device_inputs.specs.declared.admitting.Admission.{Admission}
 use Rattle.device_inputs.specs.declared.setup.ScheduledFiles.{ScheduledFiles}
 use Rattle.device_inputs.specs.declared.setup.SetupFiles.{SetupFiles}
 use Rattle.device_inputs.specs.Admissions.{served}
 use Rattle.device_inputs.specs.Inputs.{DeviceIn, PlacedIn}
-use Rattle.device_inputs.specs.Setups.{ScheduledIn, device_setting}
+use Rattle.device_inputs.specs.Setups.{ScheduledIn, SetupIn, device_setting}
 use Rattle.device_commands.specs.ChallengeEnds.{Judge}
 use Rattle.device_commands.specs.RunWritten.{written_of}
 
@@ -74,3 +77,31 @@ unfoldable pub sched_plan : List ℕ → List ℕ → Option Contents → Comman
 sched_plan device schedule files = do
   read ← ScheduledIn device schedule files
   RunOfFiles read
+
+-- ---- `run`
+
+-- What a device has come to on threads: its history is one of a whole run, and for each application and each challenge here
+-- is what this history makes of it. Of the order in which the actors came nothing is said. Of its waiting each application
+-- has counted nothing exactly where no store of it waited, and else a place at which one did.
+pub record IsThreadedOutcome (s : Setup) (outcome : Outcome) : Type 0 where
+  pub world : outcome.chronicle.world ≡ s.world
+  pub run : IsRunOf s outcome.chronicle.entries
+  pub apps : AreAppEnds s.programs outcome.chronicle.entries outcome.apps
+  pub waits : AreWaitsIn s outcome.chronicle.entries outcome.apps
+  pub passes : ArePassEnds s outcome.chronicle.entries (acts_of (entries_of outcome.chronicle.entries 0)) s.challenges outcome.passes
+
+-- what is written of the run of this setup on threads: how often an application waited isn't shown
+abbrev pub ThreadedRun : Setup → DevicePlan → Judge → List Admission → CommandStep Written
+ThreadedRun s plan by admissions = do
+  outcome ← some_that (IsThreadedOutcome s)
+  exactly (Ok (written_of plan by admissions false outcome))
+
+-- the same of what was read
+abbrev pub ThreadedRunOfFiles : SetupFiles → CommandStep Written
+ThreadedRunOfFiles read = ThreadedRun (run_setup read) read.plan (judge_of read) read.admissions
+
+-- `run DEVICE`: all files are read, the device runs on threads, and what has come of it is written
+unfoldable pub run_plan : List ℕ → Option Contents → CommandStep Written
+run_plan device files = do
+  read ← SetupIn device files
+  ThreadedRunOfFiles read

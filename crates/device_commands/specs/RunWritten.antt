@@ -1,13 +1,16 @@
 -- What is written of a run, and how the command ends.
-use Rattle.std.specs.Prelude.{ℕ, Bool, true, false, ◌||◌, if◌then◌else◌, List, [], ◌∷◌, ◌++◌, length, map}
+use Rattle.std.specs.Prelude.{◌≡◌, ℕ, Bool, true, false, ◌||◌, if◌then◌else◌, List, [], ◌∷◌, ◌++◌, length, map, All, is_some}
 use Rattle.std.specs.List.{list_any, list_all}
 use Rattle.att_base.specs.Files.{NamedBytes}
+use Rattle.history.specs.Pass.{is_extended}
+use Rattle.challenge.specs.declared.Challenge.{Challenge}
 use Rattle.report.specs.Reports.{report_bytes}
 use Rattle.report.specs.Notes.{note_bytes}
 use Rattle.trace.specs.Text.{trace_text}
 use Rattle.device_config.specs.declared.plans.AppPlan.{AppPlan}
 use Rattle.device_config.specs.declared.plans.ChallengePlan.{ChallengePlan}
 use Rattle.device_config.specs.declared.plans.DevicePlan.{DevicePlan}
+use Rattle.rv_core.specs.declared.waits.Ending.{Ending as AppEnding}
 use Rattle.app_thread.specs.declared.ends.RunEnd.{RunEnd}
 use Rattle.app_thread.specs.declared.ends.RunEnd.TheVariants as run
 use Rattle.message_commands.specs.Plans.{accepts}
@@ -15,6 +18,7 @@ use Rattle.device.specs.declared.outcomes.AppEnd.{AppEnd}
 use Rattle.device.specs.declared.outcomes.Outcome.{Outcome}
 use Rattle.device.specs.declared.outcomes.PassEnd.{PassEnd}
 use Rattle.device.specs.declared.outcomes.PassEnd.TheVariants as pass
+use Rattle.device.specs.Setups.{Setup}
 use Rattle.device_inputs.specs.declared.admitting.Admission.{Admission}
 use Rattle.command_plans.specs.declared.output.Ending.{Ending}
 use Rattle.command_plans.specs.declared.output.Ending.TheVariants.{Accepted, Refused, Full}
@@ -99,6 +103,36 @@ is_accepted Stopped = false
 -- a full history comes before a challenge that isn't answered well
 unfoldable pub ending_of_run : ℕ → List ChallengeEnd → Outcome → Ending
 ending_of_run cap ends outcome = if is_cut outcome then Full cap else (if list_all is_accepted ends then Accepted else Refused)
+
+-- the ending tells of a full history
+abbrev pub is_full : Ending → Bool
+is_full Accepted = false
+is_full Refused = false
+is_full (Full cap) = true
+
+-- ---- a whole run
+
+-- the application has ended by itself: it has exited, it was stopped by a trap, or its fuel was used up
+abbrev pub HasEnded : AppEnd → Type 0
+HasEnded app = (ending : AppEnding) × (app.run.end ≡ run.Ended ending)
+
+-- the challenge has its report, and exactly in an extended discipline its note
+abbrev pub IsAnswered : Challenge → PassEnd → Type 0
+IsAnswered c (pass.Done report noted) = is_some noted ≡ is_extended c.discipline
+IsAnswered c (pass.Full report) = ⊥
+IsAnswered c pass.NotStarted = ⊥
+
+-- so is each of these, in order
+abbrev pub AreAnswered : List Challenge → List PassEnd → Type 0
+AreAnswered [] [] = Unit {0}
+AreAnswered (c ∷ more) (end ∷ ends) = IsAnswered c end × AreAnswered more ends
+AreAnswered _ _ = ⊥
+
+-- every application has ended by itself, and every challenge that the device serves is answered
+pub record IsWholeRun (s : Setup) (outcome : Outcome) : Type 0 where
+  pub count : length outcome.apps ≡ length s.programs
+  pub ended : All HasEnded outcome.apps
+  pub answered : AreAnswered s.challenges outcome.passes
 
 -- ---- all of it
 

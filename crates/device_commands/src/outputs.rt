@@ -224,9 +224,9 @@ fn a_pass_is_cut(passes: &[PassEnd]) -> bool
     false
 }
 
-// An actor met the full history.
+/// Whether an actor met the full history.
 #[tactic(auto, unfolding(crate::specs::RunWritten::is_cut))]
-fn is_cut(outcome: &Outcome) -> bool
+pub fn is_cut(outcome: &Outcome) -> bool
     ensures { result ≡ is_cut outcome.now }
 {
     an_app_is_cut(outcome.apps.as_slice()) || a_pass_is_cut(outcome.passes.as_slice())

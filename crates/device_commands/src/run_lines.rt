@@ -16,7 +16,8 @@ use std::alloc::AllocError;
 use text_readers::word_digits;
 use verifier::Verdict;
 
-fn put_number(out: &mut Vec<u8>, number: u64) -> Result<(), AllocError>
+/// A number in decimal digits.
+pub fn put_number(out: &mut Vec<u8>, number: u64) -> Result<(), AllocError>
     ensures { OnOk result (out.new.items ≡ out.old.items ++ decimal number) }
 {
     let mut buffer = Buffer::new();
@@ -34,9 +35,9 @@ fn put_front(out: &mut Vec<u8>, word: &[u8], number: u64) -> Result<(), AllocErr
     Ok(())
 }
 
-// `WORD NUMBER TEXT`
+/// The line `WORD NUMBER TEXT`.
 #[tactic(auto, unfolding(crate::specs::RunLines::numbered_line))]
-fn put_line(out: &mut Vec<u8>, word: &[u8], number: u64, text: &[u8]) -> Result<(), AllocError>
+pub fn put_line(out: &mut Vec<u8>, word: &[u8], number: u64, text: &[u8]) -> Result<(), AllocError>
     ensures { OnOk result (out.new.items ≡ out.old.items ++ numbered_line word.now number text.now) }
 {
     put_front(out, word, number)?;
@@ -167,9 +168,9 @@ fn put_verdict(out: &mut Vec<u8>, set: &ImageSet, verdict: Verdict) -> Result<()
     }
 }
 
-// `challenge J report START END TAG`
+/// The line `challenge J report START END TAG`.
 #[tactic(auto, unfolding(crate::specs::RunLines::numbered_line))]
-fn put_report_line(out: &mut Vec<u8>, number: u64, report: &Report) -> Result<(), AllocError>
+pub fn put_report_line(out: &mut Vec<u8>, number: u64, report: &Report) -> Result<(), AllocError>
     ensures { OnOk result (out.new.items ≡ out.old.items ++ numbered_line (codes "challenge") number (report_text report.now)) }
 {
     put_front(out, b"challenge", number)?;
@@ -205,8 +206,9 @@ fn put_release_place(out: &mut Vec<u8>, number: u64, place: u64) -> Result<(), A
     Ok(())
 }
 
+/// The line `release J R` or `release J stopped`; none where the locks aren't held beyond End.
 #[tactic(auto, unfolding(crate::specs::RunLines::release_line))]
-fn put_release(out: &mut Vec<u8>, number: u64, release: ReleaseEnd) -> Result<(), AllocError>
+pub fn put_release(out: &mut Vec<u8>, number: u64, release: ReleaseEnd) -> Result<(), AllocError>
     ensures { OnOk result (out.new.items ≡ out.old.items ++ release_line number release) }
 {
     match release {

@@ -10,7 +10,7 @@ use std::process::Abort;
 use std::test::Fail;
 
 // sw x2, 0(x2), addi a7, x0, 93 and ecall: at 0x80000000 and at 0x80000010.
-const FIRST: &[u8] =
+pub const FIRST: &[u8] =
     b"\x7f\x45\x4c\x46\x01\x01\x01\x00\x00\x00\x00\x00\x00\x00\x00\x00\x02\x00\xf3\x00\x01\x00\x00\x00\x00\x00\x00\x80\x34\x00\x00\x00\x00\x00\x00\x00\x00\x00\x00\x00\x34\x00\x20\x00\x01\x00\x00\x00\x00\x00\x00\x00\x01\x00\x00\x00\x54\x00\x00\x00\x00\x00\x00\x80\x00\x00\x00\x80\x0c\x00\x00\x00\x0c\x00\x00\x00\x07\x00\x00\x00\x01\x00\x00\x00\x23\x20\x21\x00\x93\x08\xd0\x05\x73\x00\x00\x00";
 
 const SECOND: &[u8] =
@@ -27,17 +27,17 @@ const OLD: &[u8] =
 const END: &[u8] =
     b"\x23\x20\x21\x00\x93\x08\xd0\x05\x73\x00\x00\x00\x00\x00\x00\x00\x23\x20\x21\x00\x93\x08\xd0\x05\x73\x00\x00\x00\x00\x00\x00\x00\x00\x00\x00\x00\x00\x00\x00\x00\x00\x00\x00\x00\x00\x00\x00\x00\x00\x00\x00\x00\x34\x00\x00\x80\x00\x00\x00\x00\x00\x00\x00\x00";
 
-const TWO_APPS: &str =
+pub const TWO_APPS: &str =
     "base = 0x80000000\nblock = 16\nblocks = 4\nfirst = 0\nattested = 4\nkey = \"key\"\nlast = 0\ncap = 100\ntrace = \"t\"\nimages = [\"old.img\", \"end.img\"]\n[[app]]\nfile = \"a.elf\"\nconsole = \"a.out\"\nstack = 0x80000030\nfuel = 3\n[[app]]\nfile = \"b.elf\"\nconsole = \"b.out\"\nstack = 0x80000034\nfuel = 3\n[[challenge]]\nfile = \"c1\"\nreport = \"r1\"\nnote = \"n1\"\n";
 
 // inc, counter 1
-const INC: &[u8] =
+pub const INC: &[u8] =
     b"\x54\x4d\x43\x31\x04\x00\x00\x00\x00\x00\x00\x00\x00\x00\x00\x00\x00\x00\x00\x00\x00\x00\x00\x01\x00\x01\x02\x03\x04\x05\x06\x07\x08\x09\x0a\x0b\x0c\x0d\x0e\x0f\xca\x64\x4b\x29\xd4\x00\x6a\xe2\x2a\xff\xbf\x62\x4a\x3a\x59\x34\xe7\x3e\xab\x61\xa8\xa7\x26\xb0\x9d\xfc\x83\xe1\xd6\x1e\x9f\xde";
 
-const TRACE: &str =
+pub const TRACE: &str =
     "TMT1\nmemory 80000000 16 4\nattest 0 4\ncap 100\n232021009308d0057300000000000000232021009308d0057300000000000000\n0000000000000000000000000000000000000000000000000000000000000000\n0 start 4 1\n2 f 80000010 00212023\n2 s4 80000034 80000034\n0 copy 0\n0 copy 1\n0 copy 2\n0 copy 3\n1 f 80000000 00212023\n0 end\n1 s4 80000030 80000030\n2 f 80000014 05d00893\n1 f 80000004 05d00893\n2 f 80000018 00000073\n1 f 80000008 00000073\nend 14\n";
 
-const REPORT: &[u8] =
+pub const REPORT: &[u8] =
     b"\x54\x4d\x52\x31\x04\x00\x00\x00\x00\x00\x00\x00\x00\x00\x00\x01\x00\x01\x02\x03\x04\x05\x06\x07\x08\x09\x0a\x0b\x0c\x0d\x0e\x0f\x80\x00\x00\x00\x00\x00\x00\x10\x00\x00\x00\x00\x00\x00\x00\x04\x00\x00\x00\x00\x00\x00\x00\x01\x00\x00\x00\x00\x00\x00\x00\x09\x16\x6f\xe7\x0f\xd9\xc4\x41\x63\x32\xab\xe2\x14\x37\x42\xec\x7a\x2b\x38\x42\x80\x4c\x53\xae\x4d\x9a\x51\x46\x2b\xc2\x27\x0b\x9d";
 
 const LINES: &str =
@@ -79,9 +79,9 @@ const HELD_NOTE: &[u8] =
 const REFUSED_LINES: &str =
     "app 1 exit 0\napp 2 exit 0\nwaits 1 0\nwaits 2 0\nchallenge 1 refused malformed\nchallenge 2 refused badmac\nchallenge 3 report 1 6 d9be8df0c4aae3a51273f81093620bbe7f59584c6fe35f483d558225d5dad964\nverdict 3 rejected 5\nrelease 3 8\nchallenge 4 refused stale 5\nentries 16\n";
 
-type Prepared = Output<NoParts, TraceParts>;
+pub type Prepared = Output<NoParts, TraceParts>;
 
-fn put(
+pub fn put(
     alloc: Global,
     list: &mut Vec<NamedFile>,
     name: &str,
@@ -93,7 +93,7 @@ fn put(
 }
 
 // The files that each of the tests reads beside its challenges.
-fn common(alloc: Global, device: &str, schedule: &str) -> Result<Vec<NamedFile>, AllocError> {
+pub fn common(alloc: Global, device: &str, schedule: &str) -> Result<Vec<NamedFile>, AllocError> {
     let mut list = Vec::new(alloc);
     put(alloc, &mut list, "dev", device.as_bytes())?;
     put(alloc, &mut list, "s", schedule.as_bytes())?;

@@ -1,59 +1,26 @@
 //! The command `sched`: a device runs under a schedule, and what has come of it is to be written.
 
-ghost use Rattle.std.specs.Prelude.{◌≡◌, ◌^◌, ◌<◌, ◌≤◌, ◌∷◌, [], true, length, All, IfOk};
-ghost use Rattle.std.specs.List.Sorted.{IsStrictlyIncreasing};
+ghost use Rattle.std.specs.Prelude.{◌≡◌, ◌^◌, ◌<◌, ◌≤◌, [], length, All};
 ghost use Rattle.att_base.specs.Files.{IsName};
-ghost use Rattle.history.specs.Layout.{IsSetting, byte_count};
-ghost use Rattle.challenge.specs.Challenges.{IsChallenge};
-ghost use Rattle.loader.specs.Placing.{is_entry};
+ghost use Rattle.history.specs.Layout.{IsSetting};
 ghost use Rattle.device_config.specs.Plans.{IsDevicePlan};
-ghost use Rattle.device_inputs.specs.Admissions.{counters, served};
 ghost use Rattle.device_inputs.specs.Setups.{IsScheduledFiles};
 ghost use Rattle.command_plans.specs.Answered.{IsQuiet, Reads, came_of};
-ghost use Rattle.device.specs.Setups.{setup_of};
 ghost use Rattle.device.specs.Turns.{first_state};
 ghost use Rattle.device_commands.specs.Plans.{RunOfFiles, ScheduledRun, sched_plan};
 
-use crate::ends::{Judge, served};
+use crate::ends::Judge;
 use crate::laws::{measurements_are_sound, runs_are_printable};
 use crate::outputs::run_output;
-use crate::setting_up::{bytes_fit, counters_fit};
+use crate::setting_up::device_of;
 use crate::trace_parts::TraceParts;
 use att_base::Files;
 use command_plans::{Output, Parts, Stop};
 use device::Device;
 use device_config::DevicePlan;
 use device_inputs::{Admission, ScheduledFiles, SetupFiles, read_scheduled};
-use loader::Placed;
 use sched::{Run, run_schedule};
-use std::alloc::{AllocError, Global};
-
-// The device of these files, before its first turn.
-fn device_of(
-    alloc: Global,
-    plan: &DevicePlan,
-    placed: Placed,
-    key: &[u8],
-    admissions: &[Admission],
-) -> Result<Device, AllocError>
-    requires plan { IsDevicePlan plan.now }
-    requires image { length placed.image ≡ byte_count plan.now.geometry }
-    requires entries { length placed.entries ≡ length plan.now.apps }
-    requires each_entry { All (λ entry. is_entry plan.now.geometry entry ≡ true) placed.entries }
-    requires valid { All IsChallenge (served admissions.now) }
-    requires rising { IsStrictlyIncreasing (plan.now.last ∷ counters (served admissions.now)) }
-    ensures setup { IfOk result (λ device. device.setup ≡ setup_of plan.now placed key.now (served admissions.now)) }
-    ensures fresh { IfOk result (λ device. device.state ≡ first_state device.setup) }
-    ensures world { IfOk result (λ device. IsSetting device.setup.world) }
-    ensures programs { IfOk result (λ device. length device.setup.programs ≡ length plan.now.apps) }
-    ensures counters { IfOk result (λ device. All (λ c. c.counter < 2 ^ 64) device.setup.challenges) }
-{
-    bytes_fit(placed.image.as_slice());
-    let admitted = served(alloc, admissions)?;
-    counters_fit(&admitted);
-    let key = key.to_vec(alloc)?;
-    Device::make(alloc, plan, placed, key, admitted)
-}
+use std::alloc::Global;
 
 // What is written of a device's run under the schedule.
 fn scheduled_run<P: Parts + Drop>(

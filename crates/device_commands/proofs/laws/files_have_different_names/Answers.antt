@@ -1,5 +1,5 @@
-use Rattle.device_commands.proofs.RunNames.{names_differ}
+use Rattle.device_commands.proofs.RunNames.{file_names_differ}
 use Rattle.device_commands.proofs.laws.files_have_different_names.Goals as goal
 
 pub returns : goal.returns
-returns c = names_differ
+returns c = file_names_differ

@@ -6,7 +6,7 @@ use Rattle.device_inputs.specs.Admissions.{counters}
 use Rattle.device.specs.Setups.{Setup}
 use Rattle.device_commands.proofs.Comes.{if_ok}
 use Rattle.device_commands.proofs.RunSetups.{programs_count, setup_stands}
-use Rattle.device_commands.proofs.scheduled.device_of.Goals as goal
+use Rattle.device_commands.proofs.setting_up.device_of.Goals as goal
 
 pub make-requires-clause-world : goal.make-requires-clause-world
 make-requires-clause-world c =
