@@ -1,0 +1,3 @@
+pub mod GeneratedRuns
+pub mod Checks
+pub mod Plans
