@@ -1,7 +1,7 @@
 //! The program `attest`: the command line and the standard streams, handed to the proved call of the same name.
 #![tactic(auto)]
 
-use att_base::{StdErr, StdFiles, StdSink, StdSource, Words};
+use att_base::{NoGate, StdErr, StdFiles, StdSink, StdSource, Words};
 use attest_top::{Status, attest};
 use std::env;
 use std::io::ErrorKind;
@@ -29,12 +29,14 @@ fn words_of(rt: &HostRuntime) -> Result<Words, Status> {
 fn main(rt: HostRuntime) -> ExitCode {
     let status = match words_of(&rt) {
         Ok(words) => attest(
+            &rt,
             rt.alloc(),
             &words,
             &mut StdFiles::new(&rt),
             &mut StdSource::new(rt.stdin()),
             &mut StdSink::new(rt.stdout()),
             &mut StdErr::new(rt.stderr()),
+            &NoGate,
         ),
         Err(status) => status,
     };

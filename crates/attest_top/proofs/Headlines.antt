@@ -33,17 +33,12 @@ use Rattle.loader.specs.declared.faults.PlaceFault.TheVariants.{OutsideMemory, O
 use Rattle.loader.specs.Placing.{placed}
 use Rattle.device_inputs.specs.Lists.{ReadEach}
 use Rattle.device_inputs.specs.Inputs.{checked_device, DeviceIn, if_sound, AppFileIn, AppFilesIn, checked_placing, PlacedIn}
-use Rattle.device_commands.specs.Plans.{attested_image, written_image, image_plan, run_setup, MayCome, found as come, spent as unmet, some_that, RunOfFiles, sched_plan}
-use Rattle.device.specs.declared.outcomes.Outcome.{Outcome}
-use Rattle.sched.specs.Scheduled.{IsScheduledOutcome}
-use Rattle.device_inputs.specs.declared.setup.ScheduledFiles.{ScheduledFiles}
-use Rattle.device_inputs.specs.Setups.{ScheduledIn}
-use Rattle.attest_top.specs.Outcomes.{after_files}
+use Rattle.device_commands.specs.Plans.{attested_image, written_image, image_plan}
 use Rattle.attest_top.specs.declared.status.Status.{Status}
 use Rattle.attest_top.specs.declared.status.Status.TheVariants.{Good, Rejected, Full}
 use Rattle.attest_top.specs.Moments.{Moment, StreamView, stream_view, with_appended}
 use Rattle.attest_top.specs.Causes.{status_of}
-use Rattle.attest_top.specs.Headline.{HasBytes, ScriptTells, AsmTells, ShowTells, ChallengeTells, VerifyTells, AppsHaveBytes, ImageTells, run_written, SchedTells}
+use Rattle.attest_top.specs.Headline.{HasBytes, ScriptTells, AsmTells, ShowTells, ChallengeTells, VerifyTells, AppsHaveBytes, ImageTells}
 use Rattle.attest_top.specs.Prepared.{ScriptFound}
 use Rattle.attest_top.proofs.Becomes.{WroteAll}
 use Rattle.attest_top.proofs.Inverse.{through, known_gave, file_read, put_held}
@@ -141,7 +136,7 @@ tested_key : (t : Bool) (bytes key : List ℕ) (reason : Reason) → (if t then 
 tested_key true bytes key reason is = cc
 tested_key false bytes key reason is = cc
 
-key_read : (name : List ℕ) (files : Option Contents) (asked : List (List ℕ)) (key : List ℕ) → KeyIn name files asked (Ok key) → HasBytes files name key
+pub key_read : (name : List ℕ) (files : Option Contents) (asked : List (List ℕ)) (key : List ℕ) → KeyIn name files asked (Ok key) → HasBytes files name key
 unfolding KeyIn checked_key
 key_read name files asked key is =
     let t = through (ReadFile input_limit name files) (λ (bytes : List ℕ). exactly (checked_key name bytes)) asked key is in
@@ -165,7 +160,7 @@ challenge_tells key asked out names w status before after plan wrote =
 
 -- ---- `verify`
 
-verdict_status : (t : Bool) → status_of (if t then endings.Accepted else endings.Refused) ≡ (if t then Good else Rejected)
+pub verdict_status : (t : Bool) → status_of (if t then endings.Accepted else endings.Refused) ≡ (if t then Good else Rejected)
 verdict_status true = refl
 verdict_status false = refl
 
@@ -244,16 +239,16 @@ no_files_verified verifier report noted names held w plan =
 
 -- ---- `image`
 
-record DeviceRead (device : List ℕ) (held : Option Contents) (plan : DevicePlan) : Type 0 where
-  text : List ℕ
-  read : HasBytes held device text
-  said : device_file text ≡ Ok plan
+pub record DeviceRead (device : List ℕ) (held : Option Contents) (plan : DevicePlan) : Type 0 where
+  pub text : List ℕ
+  pub read : HasBytes held device text
+  pub said : device_file text ≡ Ok plan
 
 device_said : (name : List ℕ) (said : Result DevicePlan ℕ) (plan : DevicePlan) → checked_device name said ≡ Ok plan → said ≡ Ok plan
 device_said name (Ok known) plan is = cc
 device_said name (Err rule) plan is = absurd cc
 
-device_read : (device : List ℕ) (held : Option Contents) (asked : List (List ℕ)) (plan : DevicePlan) → DeviceIn device held asked (Ok plan) → DeviceRead device held plan
+pub device_read : (device : List ℕ) (held : Option Contents) (asked : List (List ℕ)) (plan : DevicePlan) → DeviceIn device held asked (Ok plan) → DeviceRead device held plan
 unfolding DeviceIn
 device_read device held asked plan is =
     let t = through (ReadFile input_limit device held) (λ (text : List ℕ). exactly (checked_device device (device_file text))) asked plan is in
@@ -354,30 +349,4 @@ image_tells device out names w status before after plan wrote =
       ends = wrote.ends ∙ ap (λ (v : Written). status_of v.ending) is;
       file = put_held held after.files.held out _ (rw is at wrote.files.held);
       grown = wrote.out ∙ ap (λ (v : Written). with_appended v.out before.out) is ∙ nothing_appended before.out;
-    }
-
--- ---- `sched`
-
-came_so : {A : Type 0} (Fits : A → Type 0) (a : A) → MayCome Fits (Ok a) → Fits a
-came_so Fits a (come b fits is) = let same : b ≡ a = cc in rw same at fits
-came_so Fits a (unmet is) = absurd cc
-
-pub sched_tells : (device schedule : List ℕ) (names : List (List ℕ)) (w : Written) (status : Status) (before after : Moment) → sched_plan device schedule before.files.held names (Ok w)
-    → WroteAll w status before after → SchedTells device schedule status before after
-unfolding sched_plan
-sched_tells device schedule names w status before after plan wrote =
-    let held = before.files.held in
-    let t = through (ScheduledIn device schedule held) (λ (read : ScheduledFiles). RunOfFiles read) names w plan in
-    let u = through (some_that (IsScheduledOutcome (run_setup t.value.setup) t.value.schedule)) (λ (outcome : Outcome). exactly (Ok (run_written t.value outcome))) t.behind w t.follows in
-    let known = known_gave {A = Written} (Ok (run_written t.value u.value)) u.behind w u.follows in
-    let is : w ≡ run_written t.value u.value = cc in
-    record {
-      names = t.before;
-      files = t.value;
-      read = t.is;
-      outcome = u.value;
-      ran = came_so (IsScheduledOutcome (run_setup t.value.setup) t.value.schedule) u.value u.is.1;
-      ends = wrote.ends ∙ ap (λ (v : Written). status_of v.ending) is;
-      written = wrote.files.held ∙ ap (λ (v : Written). after_files v.files held) is;
-      grown = wrote.out ∙ ap (λ (v : Written). with_appended v.out before.out) is;
     }

@@ -51,7 +51,7 @@ one_input limit text asked names one other a b sure certain = (a.0 ∙ sym b.0, 
 
 -- ---- one step, and then the next
 
-found_before : {A B : Type 0} (next : A → CommandStep B) (between : Result A Reason) (asked : List (List ℕ)) (came : Result B Reason) → Follows between next asked came → IsFound came → IsFound between
+pub found_before : {A B : Type 0} (next : A → CommandStep B) (between : Result A Reason) (asked : List (List ℕ)) (came : Result B Reason) → Follows between next asked came → IsFound came → IsFound between
 found_before next (Ok a) asked came follows sure = tt
 found_before next (Err absent) asked came follows sure = tt
 found_before next (Err failed) asked came follows sure = lost failed came follows.1 sure

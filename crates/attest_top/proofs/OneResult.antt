@@ -1,13 +1,14 @@
 -- What each command finds over files and input that tell is one thing.
-use Rattle.std.proofs.Common.{◌≡◌, ℕ, suc, ◌+◌, ◌<◌, List, [], ◌∷◌, length, Option, None, Some, Result, Ok, sym, ap, subst, ◌∙◌, arith}
-use Rattle.std.specs.Prelude.{slice_index}
+use Rattle.std.proofs.Common.{◌≡◌, ℕ, suc, ◌+◌, ◌<◌, List, [], ◌∷◌, length, All, true, Option, None, Some, Result, Ok, Err, sym, ap, subst, ◌∙◌, arith}
+use Rattle.std.specs.Prelude.{codes, slice_index}
 use Rattle.std.specs.List.Sorted.{IsStrictlyIncreasing}
 use Rattle.att_base.specs.Files.{Contents}
 use Rattle.challenge.specs.declared.Challenge.{Challenge}
 use Rattle.script.specs.Grammar.{program_of}
 use Rattle.rv_asm.specs.Assembled.{assembled}
 use Rattle.elf32.specs.Files.{elf_of}
-use Rattle.command_plans.specs.Steps.{Reason, no_memory, CommandStep, exactly, Then}
+use Rattle.command_plans.specs.Lines.{bad_line}
+use Rattle.command_plans.specs.Steps.{Reason, bad, no_memory, CommandStep, exactly, Then}
 use Rattle.command_plans.specs.Reading.{input_limit, ReadFile, ReadInput}
 use Rattle.command_plans.specs.Written.{Written}
 use Rattle.executable_commands.specs.Plans.{asm_plan, checked_assembly, show_plan, checked_listing}
@@ -27,7 +28,7 @@ use Rattle.device_inputs.specs.Inputs.{checked_device, DeviceIn, checked_schedul
 use Rattle.device_commands.specs.Plans.{attested_image, written_image, image_plan, run_setup, MayCome, found as come, spent as unmet, some_that, RunOfFiles, sched_plan}
 use Rattle.history.specs.declared.events.Act.{Act}
 use Rattle.history.specs.declared.events.Entry.{Entry}
-use Rattle.history.specs.Layout.{Setting}
+use Rattle.history.specs.Layout.{IsSetting, Setting}
 use Rattle.rv_core.specs.Runs.{AppProgram}
 use Rattle.schedule_text.specs.declared.reading.Run.{Run}
 use Rattle.schedule_text.specs.Schedules.{schedule_of}
@@ -45,11 +46,18 @@ use Rattle.device_inputs.specs.declared.admitting.Admission.{Admission}
 use Rattle.device_inputs.specs.declared.setup.SetupFiles.{SetupFiles}
 use Rattle.device_inputs.specs.declared.setup.ScheduledFiles.{ScheduledFiles}
 use Rattle.device_inputs.specs.Admissions.{admissions, counters, served}
-use Rattle.device_inputs.specs.Setups.{device_shape, AdmissionsIn, NamedIn, ScheduledIn}
-use Rattle.attest_top.specs.Found.{IsFound, HasOneResult}
-use Rattle.attest_top.specs.Headline.{run_written}
-use Rattle.attest_top.specs.Lines.{Form, script, asm, show, challenge, verify, image, sched}
-use Rattle.attest_top.specs.Plans.{script_plan, script_result, command_plan}
+use Rattle.device_inputs.specs.Setups.{device_shape, AdmissionsIn, NamedIn, SetupIn, ScheduledIn}
+use Rattle.chronicle.specs.Worlds.{Recorded}
+use Rattle.trace.specs.Text.{trace_text}
+use Rattle.trace.specs.Printable.{IsPrintable}
+use Rattle.trace.specs.Whole.{IsTrace, LeavesAt}
+use Rattle.trace_commands.specs.Checks.{trace_limit, IsTraceReading, is_trace, leaves, spent as no_trace, TraceOf, TraceIn, ReportIn, written_of_check, check_plan}
+use Rattle.trace_commands.specs.GeneratedRuns.{written_of_generated}
+use Rattle.trace_commands.specs.Plans.{gen_plan}
+use Rattle.generated.specs.Generated.{challenges, generated_key, generated_schedule, generated_setup}
+use Rattle.attest_top.specs.Found.{IsFound, HasOneResult, FindsOneThing}
+use Rattle.attest_top.specs.Lines.{Form, script, asm, show, challenge, verify, image, sched, run, check, gen}
+use Rattle.attest_top.specs.Plans.{script_plan, script_result, run_written, named_check_plan, command_plan}
 use Rattle.attest_top.proofs.OnePlan.{lost, one_exactly, one_file, one_input, one_then, one_then_of}
 use Rattle.attest_top.proofs.Inverse.{through, known_gave}
 
@@ -183,6 +191,9 @@ pub record LawsOfRuns : Type 0 where
       → HaveWaited tallies ends → HaveWaited tallies others → ends ≡ others
   pub one_passes : (s : Setup) (history : List Entry) → IsRunSoFar s history → (last : ℕ) → Rise last s.challenges → (challenges : List Challenge) (made : List Act) (ends others : List PassEnd)
       → ArePassEnds s history made challenges ends → ArePassEnds s history made challenges others → ends ≡ others
+  pub one_trace : (w other : Setting) (history entries : List Entry) → IsSetting w → IsSetting other → All IsPrintable history → All IsPrintable entries
+      → trace_text w history ≡ trace_text other entries → (w ≡ other) × (history ≡ entries)
+  pub one_line : (text : List ℕ) (one other : ℕ) → LeavesAt text one → LeavesAt text other → one ≡ other
   pub rising : (key : List ℕ) (last : ℕ) (sent : List (List ℕ)) → IsStrictlyIncreasing (last ∷ counters (served (admissions key last sent)))
 
 rises_from : (last : ℕ) (challenges : List Challenge) → IsStrictlyIncreasing (last ∷ counters challenges) → Rise last challenges
@@ -240,16 +251,16 @@ one_admissions key last challenges held =
     one_then (ChallengeFilesIn challenges (Some held)) (λ (sent : List (List ℕ)). exactly (Ok (admissions key last sent))) (one_each ChallengeFileIn held (one_challenge_file held) challenges)
     (λ sent. one_exactly {A = List Admission} (Ok (admissions key last sent)))
 
-abbrev setup_with : DevicePlan → List ℕ → Placed → List Admission → Known → SetupFiles
+abbrev pub setup_with : DevicePlan → List ℕ → Placed → List Admission → Known → SetupFiles
 setup_with plan key memory answers known = record { plan = plan; key = key; placed = memory; admissions = answers; images = known }
 
-abbrev WithAnswers : DevicePlan → List ℕ → Placed → List Admission → Option Contents → CommandStep SetupFiles
+abbrev pub WithAnswers : DevicePlan → List ℕ → Placed → List Admission → Option Contents → CommandStep SetupFiles
 WithAnswers plan key memory answers held = Then (ReadImages plan.images (no_images (device_shape plan)) held) (λ (known : Known). exactly (Ok (setup_with plan key memory answers known)))
 
-abbrev WithImage : DevicePlan → List ℕ → Placed → Option Contents → CommandStep SetupFiles
+abbrev pub WithImage : DevicePlan → List ℕ → Placed → Option Contents → CommandStep SetupFiles
 WithImage plan key memory held = Then (AdmissionsIn key plan.last plan.challenges held) (λ (answers : List Admission). WithAnswers plan key memory answers held)
 
-abbrev WithItsKey : List ℕ → DevicePlan → List ℕ → Option Contents → CommandStep SetupFiles
+abbrev pub WithItsKey : List ℕ → DevicePlan → List ℕ → Option Contents → CommandStep SetupFiles
 WithItsKey device plan key held = Then (PlacedIn device plan held) (λ (memory : Placed). WithImage plan key memory held)
 
 one_named : (device : List ℕ) (plan : DevicePlan) (held : Contents) → HasOneResult (NamedIn device plan (Some held))
@@ -261,13 +272,13 @@ one_named device plan held =
     (λ answers. one_then (ReadImages plan.images (no_images (device_shape plan)) (Some held)) (λ (known : Known). exactly (Ok (setup_with plan key memory answers known))) (one_images plan.images (no_images (device_shape plan)) held)
     (λ known. one_exactly {A = SetupFiles} (Ok (setup_with plan key memory answers known))))))
 
-abbrev scheduled_with : List Run → SetupFiles → ScheduledFiles
+abbrev pub scheduled_with : List Run → SetupFiles → ScheduledFiles
 scheduled_with runs setup = record { setup = setup; schedule = runs }
 
-abbrev WithRuns : List ℕ → DevicePlan → List Run → Option Contents → CommandStep ScheduledFiles
+abbrev pub WithRuns : List ℕ → DevicePlan → List Run → Option Contents → CommandStep ScheduledFiles
 WithRuns device plan runs held = Then (NamedIn device plan held) (λ (setup : SetupFiles). exactly (Ok (scheduled_with runs setup)))
 
-abbrev WithPlan : List ℕ → List ℕ → DevicePlan → Option Contents → CommandStep ScheduledFiles
+abbrev pub WithPlan : List ℕ → List ℕ → DevicePlan → Option Contents → CommandStep ScheduledFiles
 WithPlan device schedule plan held = Then (ScheduleIn schedule (length plan.apps) held) (λ (runs : List Run). WithRuns device plan runs held)
 
 one_scheduled : (device schedule : List ℕ) (held : Contents) → HasOneResult (ScheduledIn device schedule (Some held))
@@ -313,9 +324,9 @@ scheduled_rise l device schedule held asked read is =
 
 one_run : LawsOfRuns → (read : ScheduledFiles) → RisesFrom (run_setup read.setup).challenges → HasOneResult (RunOfFiles read)
 one_run l read from =
-    one_then (some_that (IsScheduledOutcome (run_setup read.setup) read.schedule)) (λ (outcome : Outcome). exactly (Ok (run_written read outcome)))
+    one_then (some_that (IsScheduledOutcome (run_setup read.setup) read.schedule)) (λ (outcome : Outcome). exactly (Ok (run_written read.setup true outcome)))
     (one_some (IsScheduledOutcome (run_setup read.setup) read.schedule) (same_outcome l (run_setup read.setup) read.schedule from))
-    (λ outcome. one_exactly {A = Written} (Ok (run_written read outcome)))
+    (λ outcome. one_exactly {A = Written} (Ok (run_written read.setup true outcome)))
 
 one_sched : LawsOfRuns → (device schedule : List ℕ) (held : Contents) → HasOneResult (sched_plan device schedule (Some held))
 unfolding sched_plan
@@ -323,17 +334,96 @@ one_sched l device schedule held =
     one_then_of (ScheduledIn device schedule (Some held)) (λ (read : ScheduledFiles). RunOfFiles read) (one_scheduled device schedule held)
     (λ read asked is. one_run l read (scheduled_rise l device schedule (Some held) asked read is))
 
+-- ---- `check`
+
+abbrev recorded : Setting → List Entry → Recorded
+recorded w history = record { world = w; entries = history }
+
+one_history : LawsOfRuns → (text : List ℕ) (one other : Recorded) → IsTrace text one → IsTrace text other → one ≡ other
+one_history l text one other a b =
+    let same : trace_text one.world one.entries ≡ trace_text other.world other.entries = sym a.spelled ∙ b.spelled in
+    let both = l.one_trace one.world other.world one.entries other.entries a.traceable.setting b.traceable.setting a.traceable.printable b.traceable.printable same in
+    ap (λ (w : Setting). recorded w one.entries) both.0 ∙ ap (λ (h : List Entry). recorded other.world h) both.1
+
+one_read_trace : LawsOfRuns → (name text : List ℕ) (one other : Result Recorded Reason) → IsTraceReading name text one → IsTraceReading name text other → IsFound one → IsFound other → one ≡ other
+one_read_trace l name text one other (is_trace a fits is) (is_trace b suits so) sure certain = is ∙ ap (λ (k : Recorded). Ok k) (one_history l text a b fits suits) ∙ sym so
+one_read_trace l name text one other (is_trace a fits is) (leaves n out so) sure certain = absurd (out.none a fits)
+one_read_trace l name text one other (leaves n out is) (is_trace b suits so) sure certain = absurd (out.none b suits)
+one_read_trace l name text one other (leaves n out is) (leaves m past so) sure certain = is ∙ ap (λ (line : ℕ). Err (bad (bad_line name (codes "trace") (line ∷ [])))) (l.one_line text n m out past) ∙ sym so
+one_read_trace l name text one other (no_trace is) b sure certain = absurd (lost no_memory one is sure)
+one_read_trace l name text one other (is_trace a fits is) (no_trace so) sure certain = absurd (lost no_memory other so certain)
+one_read_trace l name text one other (leaves n out is) (no_trace so) sure certain = absurd (lost no_memory other so certain)
+
+one_trace_of : LawsOfRuns → (name text : List ℕ) → HasOneResult (TraceOf name text)
+one_trace_of l name text asked names one other a b sure certain = (a.0 ∙ sym b.0, one_read_trace l name text one other a.1 b.1 sure certain)
+
+one_trace_in : LawsOfRuns → (name : List ℕ) (held : Contents) → HasOneResult (TraceIn name (Some held))
+unfolding TraceIn
+one_trace_in l name held =
+    one_then (ReadFile trace_limit name (Some held)) (λ (text : List ℕ). TraceOf name text) (one_file trace_limit name held) (λ text. one_trace_of l name text)
+
+one_report : (held : Contents) (name : List ℕ) → HasOneResult (ReportIn name (Some held))
+unfolding ReportIn
+one_report held name = one_file input_limit name held
+
+-- what follows upon a recorded history, and upon the key
+abbrev pub WithSecret : Recorded → List ℕ → List (List ℕ) → Option Contents → CommandStep Written
+WithSecret kept secret names held = Then (ReadEach ReportIn names held) (λ (reports : List (List ℕ)). exactly (Ok (written_of_check secret kept names reports)))
+
+abbrev pub WithHistory : List ℕ → Recorded → List (List ℕ) → Option Contents → CommandStep Written
+WithHistory key kept names held = Then (KeyIn key held) (λ (secret : List ℕ). WithSecret kept secret names held)
+
+one_with_history : (key : List ℕ) (kept : Recorded) (names : List (List ℕ)) (held : Contents) → HasOneResult (WithHistory key kept names (Some held))
+one_with_history key kept names held =
+    one_then (KeyIn key (Some held)) (λ (secret : List ℕ). WithSecret kept secret names (Some held)) (one_key key held)
+    (λ secret. one_then (ReadEach ReportIn names (Some held)) (λ (reports : List (List ℕ)). exactly (Ok (written_of_check secret kept names reports))) (one_each ReportIn held (one_report held) names)
+    (λ reports. one_exactly {A = Written} (Ok (written_of_check secret kept names reports))))
+
+one_checked : LawsOfRuns → (trace key : List ℕ) (names : List (List ℕ)) (held : Contents) → HasOneResult (check_plan trace key names (Some held))
+unfolding check_plan
+one_checked l trace key names held =
+    one_then (TraceIn trace (Some held)) (λ (kept : Recorded). WithHistory key kept names (Some held)) (one_trace_in l trace held) (λ kept. one_with_history key kept names held)
+
+one_check : LawsOfRuns → (trace key : List ℕ) (names : List (List ℕ)) (held : Contents) → HasOneResult (named_check_plan trace key names (Some held))
+unfolding named_check_plan
+one_check l trace key names held =
+    one_then (exactly (Ok names)) (λ (kept : List (List ℕ)). check_plan trace key kept (Some held)) (one_exactly {A = List (List ℕ)} (Ok names)) (λ kept. one_checked l trace key kept held)
+
+-- ---- `gen`
+
+generated_rise : (seed : ℕ) → RisesFrom (generated_setup seed).challenges
+unfolding generated_setup challenges
+generated_rise seed = record { last = 0; rise = (omega arith, (omega arith, (omega arith, (omega arith, (omega arith, tt))))) }
+
+one_gen : LawsOfRuns → (seed : ℕ) → HasOneResult (gen_plan seed)
+unfolding gen_plan
+one_gen l seed =
+    one_then (some_that (IsScheduledOutcome (generated_setup seed) (generated_schedule seed))) (λ (outcome : Outcome). exactly (Ok (written_of_generated generated_key outcome)))
+    (one_some (IsScheduledOutcome (generated_setup seed) (generated_schedule seed)) (same_outcome l (generated_setup seed) (generated_schedule seed) (generated_rise seed)))
+    (λ outcome. one_exactly {A = Written} (Ok (written_of_generated generated_key outcome)))
+
 -- ---- each command
 
--- what a command finds over files and input that tell is one thing
+-- what a command finds over files and input that tell is one thing; of `run` that are the files of the device
 abbrev pub OnePlanEach : Type 0
-OnePlanEach = (form : Form) (held : Contents) (text : List ℕ) → HasOneResult (command_plan form (Some held) (Some text))
+OnePlanEach = (form : Form) → FindsOneThing form → (held : Contents) (text : List ℕ) → HasOneResult (command_plan form (Some held) (Some text))
 
-pub one_result : LawsOfRuns → (form : Form) (held : Contents) (text : List ℕ) → HasOneResult (command_plan form (Some held) (Some text))
-one_result l script held text = one_script text
-one_result l (asm source elf) held text = one_asm source elf held
-one_result l (show elf) held text = one_show elf held
-one_result l (challenge key asked out) held text = one_challenge key asked out held
-one_result l (verify verifier report note) held text = one_verify verifier report note held
-one_result l (image device out) held text = one_image_written device out held
-one_result l (sched device schedule) held text = one_sched l device schedule held
+abbrev pub OneSetupEach : Type 0
+OneSetupEach = (device : List ℕ) (held : Contents) → HasOneResult (SetupIn device (Some held))
+
+pub one_setup : (device : List ℕ) (held : Contents) → HasOneResult (SetupIn device (Some held))
+unfolding SetupIn
+one_setup device held =
+    one_then (DeviceIn device (Some held)) (λ (plan : DevicePlan). NamedIn device plan (Some held)) (one_device device held) (λ plan. one_named device plan held)
+
+pub one_result : LawsOfRuns → (form : Form) → FindsOneThing form → (held : Contents) (text : List ℕ) → HasOneResult (command_plan form (Some held) (Some text))
+one_result l script finds held text = one_script text
+one_result l (asm source elf) finds held text = one_asm source elf held
+one_result l (show elf) finds held text = one_show elf held
+one_result l (challenge key asked out) finds held text = one_challenge key asked out held
+one_result l (verify verifier report note) finds held text = one_verify verifier report note held
+one_result l (image device out) finds held text = one_image_written device out held
+one_result l (sched device schedule) finds held text = one_sched l device schedule held
+one_result l (run device) finds held text = absurd finds
+one_result l (check trace key names) finds held text = one_check l trace key names held
+one_result l (gen seed) finds held text = one_gen l seed

@@ -1,30 +1,44 @@
 -- Why the top call keeps its promise.
-use Rattle.std.proofs.Common.{◌≡◌, ℕ, ◌≤◌, ◌⊎◌, inl, inr, List, [], Option, None, Some, Result, Ok, Err, IfOk, refl, sym, ap, ◌∙◌, arith}
-use Rattle.std.proofs.lemmas.List.{append-nil}
+use Rattle.std.proofs.Common.{◌≡◌, ℕ, ◌≤◌, ◌⊎◌, inl, inr, List, [], Option, None, Some, Result, Ok, Err, IfOk, OnOk, refl, sym, ap, subst, ◌∙◌, arith}
 use Rattle.att_base.specs.Faults.{FaultCountRose}
 use Rattle.att_base.specs.Files.{Contents, FilesView, asked_more, CountsAbsent}
 use Rattle.command_plans.specs.declared.output.Stop.{Stop}
 use Rattle.command_plans.specs.declared.output.Stop.TheVariants as stops
 use Rattle.command_plans.specs.Steps.{Reason, absent, failed, bad, no_memory}
 use Rattle.command_plans.specs.Written.{Written}
-use Rattle.command_plans.specs.Answered.{reason_of, came_of, CountsCame, Reads, CountsInput}
+use Rattle.command_plans.specs.Answered.{reason_of, came_of, CountsCame, Reads, CountsInput, IsQuiet}
 use Rattle.executable_commands.specs.Plans.{show_plan}
 use Rattle.message_commands.specs.Plans.{verify_plan}
+use Rattle.device_inputs.specs.declared.setup.SetupFiles.{SetupFiles}
+use Rattle.device_commands.specs.Plans.{run_plan}
+use Rattle.history.specs.Layout.{IsSetting}
+use Rattle.generated.specs.Generated.{generated_setup}
+use Rattle.trace_commands.specs.Plans.{gen_plan}
 use Rattle.attest_top.specs.declared.status.Status.{Status}
 use Rattle.attest_top.specs.declared.status.Status.TheVariants.{Good, Rejected, Usage, BadInput, OutsideFault, Full, Memory}
-use Rattle.attest_top.specs.Lines.{Form, script, asm, show, challenge, verify, image, sched, usage_line, fault_line, no_memory_line}
+use Rattle.attest_top.specs.Lines.{Form, script, asm, show, challenge, verify, image, sched, run, check, gen, usage_line, fault_line, no_memory_line}
 use Rattle.attest_top.specs.Moments.{StreamView, Moment, NoCountFell, NoCountRose}
-use Rattle.attest_top.specs.Found.{IsFound}
-use Rattle.attest_top.specs.Plans.{misused, planned, command_plan, IsPlanFor}
+use Rattle.attest_top.specs.Found.{IsFound, HasOneResult}
+use Rattle.attest_top.specs.Plans.{misused, planned, named_check_plan, command_plan, IsPlanFor}
 use Rattle.attest_top.specs.Outcomes.{EndsSaying, whole, cut, wrote, file_failed, wants_memory, out_failed, reason_line, reason_status, ComesTo}
-use Rattle.attest_top.specs.Causes.{status_of, ReadFailed, HasCause, NothingFailed, status_meant, IsComplete}
+use Rattle.attest_top.specs.Causes.{status_of, ReadFailed, HasCause, NothingFailed, status_meant, HasStatusOf, IsComplete}
 use Rattle.attest_top.specs.Headline.{AllWritten, Headline}
 use Rattle.attest_top.specs.Promise.{ReadsInput, LeavesFiles, Promise}
 use Rattle.attest_top.specs.Prepared.{PreparesNoFiles, ScriptFound, ReadsScript, Prepares}
 use Rattle.attest_top.proofs.Becomes.{said_later, said_quiet, said_cause, writes_cause, writes_quietly, writes_later, writes_status, wrote_all, WroteAll}
 use Rattle.attest_top.proofs.Kept.{others_kept}
-use Rattle.attest_top.proofs.OneResult.{OnePlanEach}
-use Rattle.attest_top.proofs.Headlines.{script_tells, asm_tells, show_tells, no_files_shown, challenge_tells, verify_tells, no_files_verified, image_tells, sched_tells}
+use Rattle.attest_top.proofs.NamedChecks.{asked_nothing}
+use Rattle.attest_top.proofs.OneResult.{OnePlanEach, OneSetupEach}
+use Rattle.attest_top.proofs.Headlines.{script_tells, asm_tells, show_tells, no_files_shown, challenge_tells, verify_tells, no_files_verified, image_tells}
+use Rattle.attest_top.proofs.RunHeadlines.{LawsOfTelling, sched_tells, run_tells}
+use Rattle.attest_top.proofs.CheckHeadlines.{check_tells, no_files_checked, gen_tells, no_files_generated}
+use Rattle.attest_top.proofs.RunStatus.{run_status}
+
+-- what the laws say: what a command finds is one thing, or of `run` the files of the device; and what is written of runs
+pub record LawsOfCommands : Type 0 where
+  pub plans : OnePlanEach
+  pub setups : OneSetupEach
+  pub telling : LawsOfTelling
 
 -- ---- the counts behind reading
 
@@ -45,6 +59,13 @@ script_counts (Err stops.Fault) old mid input left same counted = (ap (λ (f : F
 script_counts (Err (stops.Bad line)) old mid input left same counted = (ap (λ (f : FilesView). f.faults) same, counted)
 script_counts (Err stops.Memory) old mid input left same counted = (ap (λ (f : FilesView). f.faults) same, counted)
 
+run_counts : (seed : ℕ) (result : Result Written Stop) (old mid : FilesView) (input left : StreamView) → mid ≡ old → IsQuiet result → left ≡ input → ReadCounts (gen seed) (came_of (λ w. w) result) old mid input left
+run_counts seed (Ok w) old mid input left same quiet idle = (ap (λ (f : FilesView). f.faults) same, ap (λ (s : StreamView). s.faults) idle)
+run_counts seed (Err stops.Absent) old mid input left same quiet idle = absurd quiet
+run_counts seed (Err stops.Fault) old mid input left same quiet idle = absurd quiet
+run_counts seed (Err (stops.Bad line)) old mid input left same quiet idle = (ap (λ (f : FilesView). f.faults) same, ap (λ (s : StreamView). s.faults) idle)
+run_counts seed (Err stops.Memory) old mid input left same quiet idle = (ap (λ (f : FilesView). f.faults) same, ap (λ (s : StreamView). s.faults) idle)
+
 -- the form reads files, and no input
 abbrev ReadsFiles : Form → Type 0
 ReadsFiles script = ⊥
@@ -54,6 +75,9 @@ ReadsFiles (challenge key asked out) = Unit {0}
 ReadsFiles (verify verifier report noted) = Unit {0}
 ReadsFiles (image device out) = Unit {0}
 ReadsFiles (sched device schedule) = Unit {0}
+ReadsFiles (run device) = Unit {0}
+ReadsFiles (check trace key names) = Unit {0}
+ReadsFiles (gen seed) = ⊥
 
 failed_counts : (form : Form) (old mid : FilesView) (input left : StreamView) → ReadsFiles form → FaultCountRose old.faults mid.faults → left.faults ≡ input.faults → ReadCounts form (Err failed) old mid input left
 failed_counts script old mid input left reads rose same = absurd reads
@@ -63,6 +87,9 @@ failed_counts (challenge key asked out) old mid input left reads rose same = (ro
 failed_counts (verify verifier report noted) old mid input left reads rose same = (rose, same)
 failed_counts (image device out) old mid input left reads rose same = (rose, same)
 failed_counts (sched device schedule) old mid input left reads rose same = (rose, same)
+failed_counts (run device) old mid input left reads rose same = (rose, same)
+failed_counts (check trace key names) old mid input left reads rose same = (rose, same)
+failed_counts (gen seed) old mid input left reads rose same = absurd reads
 
 file_counts : (form : Form) (came : Result Written Reason) (old mid : FilesView) (input left : StreamView) → ReadsFiles form → CountsCame came old.held old.faults mid.faults → left ≡ input
     → ReadCounts form came old mid input left
@@ -81,10 +108,6 @@ record Prepared (form : Form) (came : Result Written Reason) (old mid : FilesVie
   asked : mid.asked ≡ asked_more names old.asked
   held : mid.held ≡ old.held
   counts : ReadCounts form came old mid input left
-
-asked_nothing : (asked : Option (List (List ℕ))) → asked ≡ asked_more [] asked
-asked_nothing None = refl
-asked_nothing (Some names) = ap (λ (all : List (List ℕ)). Some all) (sym (append-nil names))
 
 from_files : (form : Form) (result : Result Written Stop) (old mid : FilesView) (input left : StreamView) → ReadsFiles form
     → Reads (λ w. w) (λ held. command_plan form held input.bytes) result old mid → left ≡ input → Prepared form (came_of (λ w. w) result) old mid input left
@@ -110,6 +133,15 @@ prepared (challenge key asked out) result old mid input left found = from_files 
 prepared (verify verifier report noted) result old mid input left found = from_files (verify verifier report noted) result old mid input left tt found.0 found.1
 prepared (image device out) result old mid input left found = from_files (image device out) result old mid input left tt found.0 found.1
 prepared (sched device schedule) result old mid input left found = from_files (sched device schedule) result old mid input left tt found.0 found.1
+prepared (run device) result old mid input left found = from_files (run device) result old mid input left tt found.0 found.1
+prepared (check trace key names) result old mid input left found = from_files (check trace key names) result old mid input left tt found.0 found.1
+prepared (gen seed) result old mid input left found = record {
+  names = [];
+  comes = found.1.0.comes;
+  asked = ap (λ (f : FilesView). f.asked) found.0 ∙ asked_nothing old.asked;
+  held = ap (λ (f : FilesView). f.held) found.0;
+  counts = run_counts seed result old mid input left found.0 found.1.0.quiet found.1.1;
+}
 
 -- ---- the counts after the call
 
@@ -149,6 +181,9 @@ failed_cause (challenge key asked out) before after mid same counts = rw (← ap
 failed_cause (verify verifier report noted) before after mid same counts = rw (← ap (λ (f : FilesView). f.faults) same) at counts.0
 failed_cause (image device out) before after mid same counts = rw (← ap (λ (f : FilesView). f.faults) same) at counts.0
 failed_cause (sched device schedule) before after mid same counts = rw (← ap (λ (f : FilesView). f.faults) same) at counts.0
+failed_cause (run device) before after mid same counts = rw (← ap (λ (f : FilesView). f.faults) same) at counts.0
+failed_cause (check trace key names) before after mid same counts = rw (← ap (λ (f : FilesView). f.faults) same) at counts.0
+failed_cause (gen seed) before after mid same counts = rw (← ap (λ (f : FilesView). f.faults) same) at counts.0
 
 -- why a fault was told
 cause_of : (form : Form) (came : Result Written Reason) (status : Status) (before after : Moment) (mid : FilesView) → (IsErrCame came → after.files ≡ mid)
@@ -198,6 +233,9 @@ read_later (challenge key asked out) (Err failed) old mid input left counts = (c
 read_later (verify verifier report noted) (Err failed) old mid input left counts = (counts.0.0, omega (arith, counts.1))
 read_later (image device out) (Err failed) old mid input left counts = (counts.0.0, omega (arith, counts.1))
 read_later (sched device schedule) (Err failed) old mid input left counts = (counts.0.0, omega (arith, counts.1))
+read_later (run device) (Err failed) old mid input left counts = (counts.0.0, omega (arith, counts.1))
+read_later (check trace key names) (Err failed) old mid input left counts = (counts.0.0, omega (arith, counts.1))
+read_later (gen seed) (Err failed) old mid input left counts = (counts.0.0, omega (arith, counts.1))
 
 later_of : (form : Form) (came : Result Written Reason) (status : Status) (before after : Moment) (mid : FilesView) → (IsErrCame came → after.files ≡ mid)
     → ReadCounts form came before.files mid before.input after.input → ComesTo (planned came) status before after → NoCountFell before after
@@ -233,12 +271,47 @@ meant_alike : (came found : Result Written Reason) (status : Status) → (IsFoun
 meant_alike came found status same (inl both) = inl (both.1 ∙ ap status_meant (same both.0))
 meant_alike came found status same (inr none) = inr none
 
-complete_of : OnePlanEach → (form : Form) (came : Result Written Reason) (names : List (List ℕ)) (status : Status) (before after : Moment)
+-- of a command that finds one thing
+abbrev IsCompleteAsPlanned : Form → Status → Moment → Moment → Type 0
+IsCompleteAsPlanned form status before after =
+    (held : Contents) (text : List ℕ) (names : List (List ℕ)) (came : Result Written Reason)
+    → before.files.held ≡ Some held → before.input.bytes ≡ Some text → command_plan form (Some held) (Some text) names came → IsFound came
+    → NothingFailed (Some form) before after → (status ≡ status_meant came) ⊎ (status ≡ Memory)
+
+planned_complete : (form : Form) → ((held : Contents) (text : List ℕ) → HasOneResult (command_plan form (Some held) (Some text)))
+    → (came : Result Written Reason) (names : List (List ℕ)) (status : Status) (before after : Moment)
+    → command_plan form before.files.held before.input.bytes names came → ComesTo (planned came) status before after
+    → (status ≡ OutsideFault → HasCause (Some form) (planned came) before after) → IsCompleteAsPlanned form status before after
+planned_complete form one came names status before after is comes cause = λ held text asked found tells says plan sure nothing.
+    let mine : command_plan form (Some held) (Some text) names came = rw (tells, says) at is in
+    meant_alike came found status (λ mine_found. (one held text names asked came found mine plan mine_found sure).1) (status_found form came status before after comes cause nothing)
+
+-- the status is that of what was found of the device's files
+meant_by_files : (came : Result Written Reason) (read : Result SetupFiles Reason) (status : Status) → (IsFound came → HasStatusOf read (status_meant came)) → (IsFound came × (status ≡ status_meant came)) ⊎ (status ≡ Memory)
+    → HasStatusOf read status ⊎ (status ≡ Memory)
+meant_by_files came read status has (inl both) = inl (subst (λ (t : Status). HasStatusOf read t) (sym both.1) (has both.0))
+meant_by_files came read status has (inr none) = inr none
+
+run_complete : OneSetupEach → (device : List ℕ) (came : Result Written Reason) (names : List (List ℕ)) (status : Status) (before after : Moment)
+    → run_plan device before.files.held names came → ComesTo (planned came) status before after
+    → (status ≡ OutsideFault → HasCause (Some (run device)) (planned came) before after) → IsComplete (Some (run device)) status before after
+run_complete one device came names status before after is comes cause = λ held asked read tells plan sure nothing.
+    let mine : run_plan device (Some held) names came = rw tells at is in
+    meant_by_files came read status (λ found. run_status one device held names asked came read mine found plan sure) (status_found (run device) came status before after comes cause nothing)
+
+complete_of : LawsOfCommands → (form : Form) (came : Result Written Reason) (names : List (List ℕ)) (status : Status) (before after : Moment)
     → command_plan form before.files.held before.input.bytes names came → ComesTo (planned came) status before after
     → (status ≡ OutsideFault → HasCause (Some form) (planned came) before after) → IsComplete (Some form) status before after
-complete_of one form came names status before after is comes cause = λ held text asked found tells says plan sure nothing.
-    let mine : command_plan form (Some held) (Some text) names came = rw (tells, says) at is in
-    meant_alike came found status (λ mine_found. (one form held text names asked came found mine plan mine_found sure).1) (status_found form came status before after comes cause nothing)
+complete_of l script came names status before after is comes cause = planned_complete script (l.plans script tt) came names status before after is comes cause
+complete_of l (asm text elf) came names status before after is comes cause = planned_complete (asm text elf) (l.plans (asm text elf) tt) came names status before after is comes cause
+complete_of l (show elf) came names status before after is comes cause = planned_complete (show elf) (l.plans (show elf) tt) came names status before after is comes cause
+complete_of l (challenge key asked out) came names status before after is comes cause = planned_complete (challenge key asked out) (l.plans (challenge key asked out) tt) came names status before after is comes cause
+complete_of l (verify verifier report noted) came names status before after is comes cause = planned_complete (verify verifier report noted) (l.plans (verify verifier report noted) tt) came names status before after is comes cause
+complete_of l (image device out) came names status before after is comes cause = planned_complete (image device out) (l.plans (image device out) tt) came names status before after is comes cause
+complete_of l (sched device schedule) came names status before after is comes cause = planned_complete (sched device schedule) (l.plans (sched device schedule) tt) came names status before after is comes cause
+complete_of l (run device) came names status before after is comes cause = run_complete l.setups device came names status before after is comes cause
+complete_of l (check trace key reports) came names status before after is comes cause = planned_complete (check trace key reports) (l.plans (check trace key reports) tt) came names status before after is comes cause
+complete_of l (gen seed) came names status before after is comes cause = planned_complete (gen seed) (l.plans (gen seed) tt) came names status before after is comes cause
 
 -- ---- what has been written
 
@@ -259,16 +332,20 @@ all_is OutsideFault done = absurd done
 all_is Full done = (λ is. cc, λ is. cc)
 all_is Memory done = absurd done
 
-headline_wrote : (form : Form) (result : Result Written Stop) (w : Written) (names : List (List ℕ)) (status : Status) (before after : Moment) (mid : FilesView) → result ≡ Ok w
+headline_wrote : LawsOfTelling → (form : Form) (result : Result Written Stop) (w : Written) (names : List (List ℕ)) (status : Status) (before after : Moment) (mid : FilesView) → result ≡ Ok w
     → Prepares form result before.files mid before.input after.input → command_plan form before.files.held before.input.bytes names (Ok w) → WroteAll w status before after → Headline (Some form) status before after
-headline_wrote script result w names status before after mid is found plan done =
+headline_wrote l script result w names status before after mid is found plan done =
     λ all. script_tells w status before after (let f : IfOk result (λ v. ScriptFound before.input.bytes v) = found.1.found in rw is at f) done
-headline_wrote (asm text elf) result w names status before after mid is found plan done = λ all. asm_tells text elf names w status before after plan done
-headline_wrote (show elf) result w names status before after mid is found plan done = λ all. show_tells elf names w status before after plan done
-headline_wrote (challenge key asked out) result w names status before after mid is found plan done = λ all. challenge_tells key asked out names w status before after plan done
-headline_wrote (verify verifier report noted) result w names status before after mid is found plan done = λ all. verify_tells verifier report noted names w status before after plan done
-headline_wrote (image device out) result w names status before after mid is found plan done = λ all. image_tells device out names w status before after plan done
-headline_wrote (sched device schedule) result w names status before after mid is found plan done = λ all. sched_tells device schedule names w status before after plan done
+headline_wrote l (asm text elf) result w names status before after mid is found plan done = λ all. asm_tells text elf names w status before after plan done
+headline_wrote l (show elf) result w names status before after mid is found plan done = λ all. show_tells elf names w status before after plan done
+headline_wrote l (challenge key asked out) result w names status before after mid is found plan done = λ all. challenge_tells key asked out names w status before after plan done
+headline_wrote l (verify verifier report noted) result w names status before after mid is found plan done = λ all. verify_tells verifier report noted names w status before after plan done
+headline_wrote l (image device out) result w names status before after mid is found plan done = λ all. image_tells device out names w status before after plan done
+headline_wrote l (sched device schedule) result w names status before after mid is found plan done = λ all. sched_tells l device schedule names w status before after plan done
+headline_wrote l (run device) result w names status before after mid is found plan done = λ all. run_tells l device names w status before after plan done
+headline_wrote l (check trace key reports) result w names status before after mid is found plan done = λ all. check_tells l trace key reports names w status before after plan done
+headline_wrote l (gen seed) result w names status before after mid is found plan done =
+    λ all. gen_tells l seed names w status before after (let s : OnOk result (IsSetting (generated_setup seed).world) = found.1.0.setting in rw is at s) plan done
 
 headline_given : (form : Form) (status : Status) (before after : Moment) → (AllWritten status → Headline (Some form) status before after) → Headline (Some form) status before after
 headline_given script status before after given = λ all. given all all
@@ -278,14 +355,17 @@ headline_given (challenge key asked out) status before after given = λ all. giv
 headline_given (verify verifier report noted) status before after given = λ all. given all all
 headline_given (image device out) status before after given = λ all. given all all
 headline_given (sched device schedule) status before after given = λ all. given all all
+headline_given (run device) status before after given = λ all. given all all
+headline_given (check trace key names) status before after given = λ all. given all all
+headline_given (gen seed) status before after given = λ all. given all all
 
-headline_of : (form : Form) (result : Result Written Stop) (names : List (List ℕ)) (status : Status) (before after : Moment) (mid : FilesView)
+headline_of : LawsOfTelling → (form : Form) (result : Result Written Stop) (names : List (List ℕ)) (status : Status) (before after : Moment) (mid : FilesView)
     → Prepares form result before.files mid before.input after.input → command_plan form before.files.held before.input.bytes names (came_of (λ w. w) result)
     → ComesTo (planned (came_of (λ w. w) result)) status before after → Headline (Some form) status before after
-headline_of form (Ok w) names status before after mid found plan comes =
-    headline_given form status before after (λ all. headline_wrote form (Ok w) w names status before after mid refl found plan
+headline_of l form (Ok w) names status before after mid found plan comes =
+    headline_given form status before after (λ all. headline_wrote l form (Ok w) w names status before after mid refl found plan
     (wrote_all w status before after comes (all_is status all).0 (all_is status all).1))
-headline_of form (Err stop) names status before after mid found plan comes =
+headline_of l form (Err stop) names status before after mid found plan comes =
     headline_given form status before after (λ all. absurd (said_not_all (reason_line (reason_of stop)) (reason_of stop) status before.err after.err comes.says all))
 
 -- ---- standard input
@@ -306,10 +386,13 @@ input_of (challenge key asked out) result old mid input left found = found.1
 input_of (verify verifier report noted) result old mid input left found = found.1
 input_of (image device out) result old mid input left found = found.1
 input_of (sched device schedule) result old mid input left found = found.1
+input_of (run device) result old mid input left found = found.1
+input_of (check trace key names) result old mid input left found = found.1
+input_of (gen seed) result old mid input left found = found.1.1
 
 -- ---- files
 
--- what is prepared for `show` and for `verify` has no files
+-- what is prepared for a command that only reads has no files
 show_files : (elf : List ℕ) (result : Result Written Stop) (names : List (List ℕ)) (held : Option Contents) → show_plan elf held names (came_of (λ w. w) result) → PreparesNoFiles result
 show_files elf (Ok w) names held plan = no_files_shown elf names held w plan
 show_files elf (Err stop) names held plan = tt
@@ -318,6 +401,15 @@ verify_files : (verifier report : List ℕ) (noted : Option (List ℕ)) (result 
     → verify_plan verifier report noted held names (came_of (λ w. w) result) → PreparesNoFiles result
 verify_files verifier report noted (Ok w) names held plan = no_files_verified verifier report noted names held w plan
 verify_files verifier report noted (Err stop) names held plan = tt
+
+check_files : (trace key : List ℕ) (reports : List (List ℕ)) (result : Result Written Stop) (names : List (List ℕ)) (held : Option Contents)
+    → named_check_plan trace key reports held names (came_of (λ w. w) result) → PreparesNoFiles result
+check_files trace key reports (Ok w) names held plan = no_files_checked trace key reports names held w plan
+check_files trace key reports (Err stop) names held plan = tt
+
+gen_files : (seed : ℕ) (result : Result Written Stop) (names : List (List ℕ)) → gen_plan seed names (came_of (λ w. w) result) → PreparesNoFiles result
+gen_files seed (Ok w) names plan = no_files_generated seed names w plan
+gen_files seed (Err stop) names plan = tt
 
 script_files : (result : Result Written Stop) (old left : StreamView) → ReadsScript result old left → PreparesNoFiles result
 script_files (Ok w) old left reads = ap (λ (v : Written). v.files) reads.found.tells.is
@@ -333,12 +425,16 @@ leaves_files (verify verifier report noted) result names old mid now input left 
     ap (λ (f : FilesView). f.held) (idle (verify_files verifier report noted result names old.held plan)) ∙ found.0.same
 leaves_files (image device out) result names old mid now input left found plan idle = tt
 leaves_files (sched device schedule) result names old mid now input left found plan idle = tt
+leaves_files (run device) result names old mid now input left found plan idle = tt
+leaves_files (check trace key reports) result names old mid now input left found plan idle =
+    ap (λ (f : FilesView). f.held) (idle (check_files trace key reports result names old.held plan)) ∙ found.0.same
+leaves_files (gen seed) result names old mid now input left found plan idle = idle (gen_files seed result names plan) ∙ found.0
 
-pub promise_kept : OnePlanEach → (form : Form) (result : Result Written Stop) (status : Status) (before after : Moment) (mid : FilesView)
+pub promise_kept : LawsOfCommands → (form : Form) (result : Result Written Stop) (status : Status) (before after : Moment) (mid : FilesView)
     → Prepares form result before.files mid before.input after.input → ComesTo (planned (came_of (λ w. w) result)) status (record before { files = mid }) after
     → after.files.asked ≡ mid.asked → (PreparesNoFiles result → after.files ≡ mid) → Promise (Some form) before after status
 unfolding IsPlanFor
-promise_kept one form result status before after mid found comes asked idle =
+promise_kept laws form result status before after mid found comes asked idle =
     let came : Result Written Reason = came_of (λ (w : Written). w) result in
     let p = prepared form result before.files mid before.input after.input found in
     let became = from_start form came status before after mid p.held p.counts comes in
@@ -352,8 +448,8 @@ promise_kept one form result status before after mid found comes asked idle =
       comes = became;
       cause = cause;
       unfailed = unfailed_of form came status before after mid none p.counts became;
-      complete = complete_of one form came p.names status before after p.comes became cause;
-      headline = headline_of form result p.names status before after mid found p.comes became;
+      complete = complete_of laws form came p.names status before after p.comes became cause;
+      headline = headline_of laws.telling form result p.names status before after mid found p.comes became;
       input = input_of form result before.files mid before.input after.input found;
       others = others_kept (planned came) status before after became;
       files = leaves_files form result p.names before.files mid after.files before.input after.input found p.comes idle;

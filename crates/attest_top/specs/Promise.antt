@@ -5,7 +5,7 @@ use Rattle.att_base.specs.Files.{Contents, FilesView, asked_more}
 use Rattle.command_plans.specs.Steps.{bad}
 use Rattle.attest_top.specs.declared.status.Status.{Status}
 use Rattle.attest_top.specs.declared.status.Status.TheVariants.{OutsideFault}
-use Rattle.attest_top.specs.Lines.{Form, script, asm, show, challenge, verify, image, sched}
+use Rattle.attest_top.specs.Lines.{Form, script, asm, show, challenge, verify, image, sched, run, check, gen}
 use Rattle.attest_top.specs.Moments.{StreamView, Moment, NoCountFell, NoCountRose}
 use Rattle.attest_top.specs.Plans.{Plan, planned, IsPlanFor}
 use Rattle.attest_top.specs.Outcomes.{ComesTo}
@@ -42,6 +42,9 @@ LeavesFiles (Some (challenge key asked out)) before after = Unit {0}
 LeavesFiles (Some (verify verifier report noted)) before after = after.held ≡ before.held
 LeavesFiles (Some (image device out)) before after = Unit {0}
 LeavesFiles (Some (sched device schedule)) before after = Unit {0}
+LeavesFiles (Some (run device)) before after = Unit {0}
+LeavesFiles (Some (check trace key names)) before after = after.held ≡ before.held
+LeavesFiles (Some (gen seed)) before after = after ≡ before
 
 -- The plan is one that the words may have over what is held, and exactly its names were asked for, in its order. It has
 -- come to this status, and to what is shown after the call. A fault of the outside is told only for its cause, and

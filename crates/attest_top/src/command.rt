@@ -1,17 +1,20 @@
 //! The words of a command line.
 
-ghost use Rattle.std.specs.Prelude.{◌≡◌, IsTrue, IfSome, None};
+ghost use Rattle.std.specs.Prelude.{◌≡◌, ◌≤◌, length, drop, All, IsTrue, IfSome};
+ghost use Rattle.std.specs.List.{list_all};
+ghost use Rattle.std.specs.Option.{option_copied};
 ghost use Rattle.att_base.specs.Files.{IsName};
 ghost use Rattle.challenge.specs.Challenges.{IsChallenge};
-ghost use Rattle.attest_top.specs.Lines.{is_file_name, show_form, two_files_form, note_form, challenge_form, command_of};
-ghost use Rattle.attest_top.specs.Prepared.{form_meant, HasFileNames};
+ghost use Rattle.attest_top.specs.Lines.{is_file_name, show_form, gen_form, two_files_form, note_form, challenge_form, check_form, first_form, counted_form, still_of, run_of};
+ghost use Rattle.attest_top.specs.Prepared.{run_meant};
 
 use att_base::Words;
 use challenge::Challenge;
 use message_commands::challenge_of;
 use std::marker::Model;
+use text_readers::plain_decimal;
 
-/// What the words of a command line ask for, with the names of files in them.
+/// What the words of a command line ask for that runs on one thread, with the names of files in them.
 #[derive(Clone, Copy)]
 pub enum Kind<'a> {
     /// Run the script on standard input.
@@ -47,9 +50,19 @@ pub enum Kind<'a> {
         device: &'a str,
         schedule: &'a str,
     },
+    /// Check a recorded history, and reports by it, whose names stand behind the first three words.
+    Check {
+        trace: &'a str,
+        key: &'a str,
+        words: &'a Words,
+    },
+    /// Run the device that is drawn from a number.
+    Gen {
+        seed: u64,
+    },
 }
 
-/// A command. Clauses see its form; its names are names of files, and what it asks for is a valid challenge.
+/// A command on one thread. Clauses see its form; its names are names of files, and what it asks for is a valid challenge.
 #[derive(Drop)]
 pub struct Command<'a> {
     pub kind: Kind<'a>,
@@ -69,11 +82,28 @@ impl<'a> Model for Command<'a> {
 /// The most bytes of a file's name.
 const NAME_BYTES: usize = 255;
 
+/// The most words of `check`: 64 names of reports behind three words.
+const CHECK_WORDS: usize = 67;
+
 fn is_file_name(word: &str) -> bool
     ensures value { result ≡ is_file_name word.now }
     ensures name { IsTrue result → IsName word.now }
 {
     !word.is_empty() && word.len() <= NAME_BYTES
+}
+
+// Each word from this one on is a file name.
+fn are_file_names(words: &Words, from: usize) -> bool
+    requires { from ≤ length words.now }
+    ensures value { result ≡ list_all is_file_name (drop from words.now) }
+    ensures names { IsTrue result → All IsName (drop from words.now) }
+{
+    for k in from..words.count() {
+        if !is_file_name(words.word(k)) {
+            return false;
+        }
+    }
+    true
 }
 
 // `show ELF`
@@ -86,6 +116,29 @@ fn show<'a>(verb: &str, elf: &'a str) -> Option<Command<'a>>
         });
     }
     None
+}
+
+// `gen N`
+fn seeded<'a>(verb: &str, number: &str) -> Option<Command<'a>>
+    ensures { result ≡ gen_form verb.now number.now }
+{
+    if verb != "gen" {
+        return None;
+    }
+    let seed = plain_decimal(number.as_bytes())?;
+    Some(Command {
+        kind: Kind::Gen { seed },
+    })
+}
+
+// `show ELF` and `gen N`
+fn two_words<'a>(verb: &str, word: &'a str) -> Option<Command<'a>>
+    ensures { result ≡ first_form (show_form verb.now word.now) (gen_form verb.now word.now) }
+{
+    match show(verb, word) {
+        Some(command) => Some(command),
+        None => seeded(verb, word),
+    }
 }
 
 // `asm TEXT ELF`, `verify VERIFIER REPORT`, `image DEVICE OUT` and `sched DEVICE SCHEDULE`
@@ -159,14 +212,49 @@ fn challenge<'a>(
     }
 }
 
-/// The command that the words name; None where they are in no form.
-#[tactic(auto, unfolding(crate::specs::Lines::command_of))]
-pub fn parse<'a>(words: &'a Words) -> Option<Command<'a>>
-    ensures { result ≡ command_of words.now }
+/// The device file of `run DEVICE`; None where the words are others.
+#[tactic(auto, unfolding(crate::specs::Lines::run_of))]
+pub fn device_to_run<'a>(words: &'a Words) -> Option<&'a str>
+    ensures form { run_meant (option_copied result) ≡ run_of words.now }
+    ensures name { IfSome result (λ device. IsName device.now) }
+{
+    match words.count() {
+        2 if words.word(0) == "run" && is_file_name(words.word(1)) => Some(words.word(1)),
+        _ => None,
+    }
+}
+
+// `check TRACE KEY` and up to 64 names of reports
+fn check<'a>(words: &'a Words) -> Option<Command<'a>>
+    ensures { result ≡ check_form words.now }
+{
+    let count = words.count();
+    if count < 3 {
+        return None;
+    }
+    if count > CHECK_WORDS {
+        return None;
+    }
+    if words.word(0) == "check" && are_file_names(words, 1) {
+        return Some(Command {
+            kind: Kind::Check {
+                trace: words.word(1),
+                key: words.word(2),
+                words,
+            },
+        });
+    }
+    None
+}
+
+// The commands with a fixed number of words.
+#[tactic(auto, unfolding(crate::specs::Lines::counted_form))]
+fn counted<'a>(words: &'a Words) -> Option<Command<'a>>
+    ensures { result ≡ counted_form words.now }
 {
     match words.count() {
         1 if words.word(0) == "script" => Some(Command { kind: Kind::Script }),
-        2 => show(words.word(0), words.word(1)),
+        2 => two_words(words.word(0), words.word(1)),
         3 => two_files(words.word(0), words.word(1), words.word(2)),
         4 => with_note(words.word(0), words.word(1), words.word(2), words.word(3)),
         8 => {
@@ -180,5 +268,16 @@ pub fn parse<'a>(words: &'a Words) -> Option<Command<'a>>
             challenge(words.word(0), words.word(1), asked, words.word(7))
         }
         _ => None,
+    }
+}
+
+/// The command on one thread that the words name; None where they name none.
+#[tactic(auto, unfolding(crate::specs::Lines::still_of))]
+pub fn parse_still<'a>(words: &'a Words) -> Option<Command<'a>>
+    ensures { result ≡ still_of words.now }
+{
+    match check(words) {
+        Some(command) => Some(command),
+        None => counted(words),
     }
 }

@@ -12,7 +12,11 @@ mod top;
 pub use command_plans::Ending;
 pub use laws::one_plan;
 pub use status::Status;
-pub use top::{attest, attest_still};
+pub use top::{attest, attest_run, attest_still};
 
+#[cfg(test)]
+mod check_tests;
+#[cfg(test)]
+mod gate_tests;
 #[cfg(test)]
 mod tests;

@@ -3,10 +3,14 @@
 ghost use Rattle.std.specs.Prelude.{◌≤◌};
 
 use super::*;
-use att_base::{MemFiles, MemSink, MemSource, NamedFile, Words};
+use crate::check_tests::FIRST_RUN;
+use crate::gate_tests::STORED_TRACE;
+use att_base::{MemFiles, MemSink, MemSource, NamedFile, NoGate, Words};
 use std::alloc::{AllocError, Global};
 use std::process::Abort;
+use std::sync::Wait;
 use std::test::Fail;
+use std::thread::Threads;
 
 const FAULT: &str = "attest: outside fault\n";
 
@@ -33,6 +37,10 @@ const SENT: &[u8] =
 
 const REPORT: &[u8] =
     b"TMR1\x02\x00\x00\x00\x00\x00\x00\x00\x00\x00\x00\x09\x00\x01\x02\x03\x04\x05\x06\x07\x08\x09\x0a\x0b\x0c\x0d\x0e\x0f\x80\x00\x00\x00\x00\x00\x00\x10\x00\x00\x00\x00\x00\x00\x00\x04\x00\x00\x00\x00\x00\x00\x00\x01\x00\x00\x00\x00\x00\x00\x00\x06\x55\xfa\x8d\x83\x81\xbd\x4f\x06\x88\x9e\xda\x50\xa2\x86\x80\xf6\xd3\x38\xef\x59\x72\x62\xc0\x13\xca\xd0\xdd\xd1\xc7\x9a\xe1\x2d";
+
+// The report of the run of two applications that store.
+const TOLD: &[u8] =
+    b"\x54\x4d\x52\x31\x04\x00\x00\x00\x00\x00\x00\x00\x00\x00\x00\x01\x00\x01\x02\x03\x04\x05\x06\x07\x08\x09\x0a\x0b\x0c\x0d\x0e\x0f\x80\x00\x00\x00\x00\x00\x00\x10\x00\x00\x00\x00\x00\x00\x00\x04\x00\x00\x00\x00\x00\x00\x00\x01\x00\x00\x00\x00\x00\x00\x00\x09\x16\x6f\xe7\x0f\xd9\xc4\x41\x63\x32\xab\xe2\x14\x37\x42\xec\x7a\x2b\x38\x42\x80\x4c\x53\xae\x4d\x9a\x51\x46\x2b\xc2\x27\x0b\x9d";
 
 const NOTE: &[u8] =
     b"TMN1\x00\x00\x00\x00\x00\x00\x00\x00\x00\x00\x00\x09\x00\x00\x00\x00\x00\x00\x00\x01\x00\x00\x00\x00\x00\x00\x00\x06\x00\x00\x00\x00\x00\x00\x00\x09\x48\xea\xd7\x1f\xac\x3e\x02\x41\xdf\x7e\x31\x90\xd5\x04\xd2\x72\x2d\x5d\x51\x99\x21\x61\x25\x98\x4d\xdb\x11\x1f\x73\xb0\x8e\x0c";
@@ -62,7 +70,7 @@ struct Case {
     first: usize,
 }
 
-const CASES: [Case; 7] = [
+const CASES: [Case; 8] = [
     Case {
         line: "script",
         status: Status::Full,
@@ -133,7 +141,29 @@ const CASES: [Case; 7] = [
         count: 0,
         first: 0,
     },
+    Case {
+        line: "check history key.bin told report",
+        status: Status::Rejected,
+        printed: "legal 14\nconfirmed told\nrefused report 3\n",
+        said: "",
+        reads: 4,
+        name: "-",
+        count: 0,
+        first: 0,
+    },
 ];
+
+// What prints the run of a device that is drawn from 1.
+const GENERATED: Case = Case {
+    line: "gen 1",
+    status: Status::Good,
+    printed: FIRST_RUN,
+    said: "",
+    reads: 0,
+    name: "-",
+    count: 0,
+    first: 0,
+};
 
 // The calls that fail: on files, standard input, standard output and standard error, all of whose calls move 16 bytes.
 #[derive(Clone, Copy)]
@@ -160,6 +190,8 @@ fn files_of(alloc: Global, fails: u64) -> Result<MemFiles, AllocError> {
         ("key.bin", b"key"),
         ("sent", SENT),
         ("report", REPORT),
+        ("history", STORED_TRACE.as_bytes()),
+        ("told", TOLD),
         ("note", NOTE),
         ("other.img", &[b'a'; 64]),
         ("good.img", &[0; 64]),
@@ -180,8 +212,8 @@ fn sink(alloc: Global, fails: u64) -> Result<MemSink, AllocError> {
 
 // Carries the command out, and compares the status, what standard output and standard error hold, and how many bytes of
 // the file that is written there are: None where it is as it was.
-fn expect(
-    rt: &impl Abort,
+fn expect<R: Threads + Wait + Sync + Abort>(
+    rt: &R,
     alloc: Global,
     case: Case,
     fails: Fails,
@@ -197,7 +229,9 @@ fn expect(
     let mut files = files_of(alloc, fails.files)?;
     let mut out = sink(alloc, fails.out)?;
     let mut err = sink(alloc, fails.err)?;
-    let status = attest(alloc, &words, &mut files, &mut input, &mut out, &mut err);
+    let status = attest(
+        rt, alloc, &words, &mut files, &mut input, &mut out, &mut err, &NoGate,
+    );
     let line = case.line;
     assert_eq!(rt; status, want.0, "in {line}");
     assert_eq!(rt; out.held(), want.1.as_bytes(), "in {line}");
@@ -231,12 +265,18 @@ fn each_command_prints(rt: HostRuntime) -> Result<(), Fail> {
         let want = (case.status, case.printed, case.said);
         expect(&rt, alloc, case, NONE, want, written(case))?;
     }
+    let want = (Status::Good, FIRST_RUN, "");
+    expect(&rt, alloc, GENERATED, NONE, want, None)?;
     Ok(())
 }
 
 // Each call on files fails in turn, the reads, the clearing, and the first append, which has written half of its piece; and then
 // standard error fails at its second call.
-fn expect_file_faults(rt: &impl Abort, alloc: Global, case: Case) -> Result<(), AllocError> {
+fn expect_file_faults<R: Threads + Wait + Sync + Abort>(
+    rt: &R,
+    alloc: Global,
+    case: Case,
+) -> Result<(), AllocError> {
     let writes = if case.name == "-" { 0 } else { 2 };
     for call in 0..case.reads.saturating_add(writes) {
         let count = if call > case.reads {
@@ -259,7 +299,11 @@ fn expect_file_faults(rt: &impl Abort, alloc: Global, case: Case) -> Result<(), 
 }
 
 // Each call on standard output fails in turn, and each on standard error.
-fn expect_stream_faults(rt: &impl Abort, alloc: Global, case: Case) -> Result<(), AllocError> {
+fn expect_stream_faults<R: Threads + Wait + Sync + Abort>(
+    rt: &R,
+    alloc: Global,
+    case: Case,
+) -> Result<(), AllocError> {
     for call in 0..10 {
         if front(case.printed, call).len() < case.printed.len() {
             let fails = Fails {
@@ -292,6 +336,14 @@ fn behind_a_fault_nothing_is_tried_again(rt: HostRuntime) -> Result<(), Fail> {
         expect_file_faults(&rt, alloc, case)?;
         expect_stream_faults(&rt, alloc, case)?;
     }
+    let fails = Fails {
+        files: NEVER,
+        input: NEVER,
+        out: 1,
+        err: NEVER,
+    };
+    let want = (Status::OutsideFault, front(FIRST_RUN, 1), FAULT);
+    expect(&rt, alloc, GENERATED, fails, want, None)?;
     // The ninth call finds the end of the input.
     for call in 0..9 {
         let fails = Fails {
