@@ -40,10 +40,27 @@ def write(name, content):
         file.write(content)
 
 
-def timed(program):
+def prepare(program):
+    """Writes the device, its key, an empty schedule and its challenges."""
+    nonce = "000102030405060708090a0b0c0d0e0f"
+    write("key", "key")
+    write("schedule", "")
+    write("device", device())
+    run(program, "challenge", "key", "dec", "4000", "0", "1", nonce, "1.challenge")
+    run(program, "challenge", "key", "inc-ext", "100", "50", "2", nonce, "2.challenge")
+
+
+def assemble(program, loops):
+    """Makes the applications, each of which loops so often."""
+    for k in range(APPS):
+        write(f"{k}.s", text(k, loops))
+        run(program, "asm", f"{k}.s", f"{k}.elf")
+
+
+def timed(*words):
     """The seconds, the resident memory and the entries of one run. Status 1 is a report of memory that is no known image."""
     begun = time.perf_counter()
-    child = subprocess.Popen([program, "sched", "device", "schedule"], stdout=subprocess.PIPE, text=True)
+    child = subprocess.Popen(words, stdout=subprocess.PIPE, text=True)
     said = child.stdout.read()
     _, status, usage = os.wait4(child.pid, 0)
     spent = time.perf_counter() - begun
@@ -55,22 +72,16 @@ def timed(program):
 def main():
     program = os.path.abspath(sys.argv[1])
     most = int(sys.argv[2]) if len(sys.argv) > 2 else 67_000
-    nonce = "000102030405060708090a0b0c0d0e0f"
     with tempfile.TemporaryDirectory() as folder:
         os.chdir(folder)
-        write("key", "key")
-        write("schedule", "")
-        write("device", device())
-        run(program, "challenge", "key", "dec", "4000", "0", "1", nonce, "1.challenge")
-        run(program, "challenge", "key", "inc-ext", "100", "50", "2", nonce, "2.challenge")
+        prepare(program)
         for loops in (most // 4, most // 2, most):
-            for k in range(APPS):
-                write(f"{k}.s", text(k, loops))
-                run(program, "asm", f"{k}.s", f"{k}.elf")
-            runs = [timed(program) for _ in range(3)]
+            assemble(program, loops)
+            runs = [timed(program, "sched", "device", "schedule") for _ in range(3)]
             best, entries = min(r[0] for r in runs), runs[0][2]
             print(f"{entries:8} entries  {best:.3f} s  {entries / best:,.0f} a second  {max(r[1] for r in runs)} KiB")
         os.chdir("/")
 
 
-main()
+if __name__ == "__main__":
+    main()

@@ -10,6 +10,8 @@ import subprocess
 import sys
 import time
 
+MIX = 7  # turns of a mix
+
 # the job, its threads, and what it is
 JOBS = (
     ("bare", 1, "no lock, in the mix of five Fetches, a Load and a Store"),
@@ -34,15 +36,20 @@ def timed(program, job, threads, turns):
     return spent
 
 
+def best(program, job, threads, turns, runs):
+    """Turns a second of all threads together, by the best of some runs, without the start of the program."""
+    start = min(timed(program, job, threads, MIX) for _ in range(runs))
+    return turns * threads / (min(timed(program, job, threads, turns) for _ in range(runs)) - start)
+
+
 def main():
     program = sys.argv[1]
     wanted = int(sys.argv[2]) if len(sys.argv) > 2 else 1_000_000
     runs = int(sys.argv[3]) if len(sys.argv) > 3 else 5
     for job, threads, what in JOBS:
-        turns = wanted // threads // 7 * 7
-        start = min(timed(program, job, threads, 7) for _ in range(runs))
-        best = min(timed(program, job, threads, turns) for _ in range(runs)) - start
-        print(f"{threads} threads, {what}: {turns * threads / best:,.0f} a second")
+        turns = wanted // threads // MIX * MIX
+        print(f"{threads} threads, {what}: {best(program, job, threads, turns, runs):,.0f} a second")
 
 
-main()
+if __name__ == "__main__":
+    main()
