@@ -1,6 +1,5 @@
 #!/usr/bin/env python3
 """Challenges, reports, notes and verdicts from docs/FORMATS.md alone, compared with those of the program on 100 random devices.
-
 Usage: formats.py PROGRAM [SEED]   (a new seed unless one is given; it is printed)
 """
 import hmac, os, pathlib, random, struct, subprocess, sys, tempfile
