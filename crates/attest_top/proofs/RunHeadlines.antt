@@ -30,7 +30,7 @@ use Rattle.device_inputs.specs.Inputs.{DeviceIn, ScheduleIn, PlacedIn}
 use Rattle.device_inputs.specs.Setups.{device_shape, AdmissionsIn, NamedIn, SetupIn, ScheduledIn}
 use Rattle.device_commands.specs.declared.ends.ChallengeEnd.{ChallengeEnd}
 use Rattle.device_commands.specs.ChallengeEnds.{challenge_ends}
-use Rattle.device_commands.specs.RunWritten.{names_of, run_files, is_cut, is_accepted, ending_of_run, written_of, IsWholeRun}
+use Rattle.device_commands.specs.RunWritten.{names_of, run_files, is_cut, is_accepted, ending_of_run, written_of, IsFinishedRun}
 use Rattle.device_commands.specs.Plans.{run_setup, judge_of, MayCome, found as come, spent as unmet, some_that, RunOfFiles, sched_plan, IsThreadedOutcome, ThreadedRunOfFiles, run_plan}
 use Rattle.attest_top.specs.declared.status.Status.{Status}
 use Rattle.attest_top.specs.Moments.{Moment, with_appended}
@@ -48,8 +48,8 @@ use Rattle.attest_top.proofs.OneResult.{setup_with, WithAnswers, WithImage, With
 -- history is legal exactly where no entry of it breaks a rule, and what Yes says of a report.
 pub record LawsOfTelling : Type 0 where
   pub names : (text : List ℕ) (plan : DevicePlan) → device_file text ≡ Ok plan → (ends : List ChallengeEnd) (outcome : Outcome) → all_different (names_of (run_files plan ends outcome)) ≡ true
-  pub threaded : (s : Setup) (outcome : Outcome) → IsThreadedOutcome s outcome → is_cut outcome ≡ false → IsWholeRun s outcome
-  pub scheduled : (s : Setup) (schedule : List Run) (outcome : Outcome) → IsScheduledOutcome s schedule outcome → is_cut outcome ≡ false → IsWholeRun s outcome
+  pub threaded : (s : Setup) (outcome : Outcome) → IsThreadedOutcome s outcome → is_cut outcome ≡ false → IsFinishedRun s outcome
+  pub scheduled : (s : Setup) (schedule : List Run) (outcome : Outcome) → IsScheduledOutcome s schedule outcome → is_cut outcome ≡ false → IsFinishedRun s outcome
   pub unbroken : (w : Setting) (history : List Entry) → (broken w history ≡ None) ↔ IsLegal w history
   pub yes : (key : List ℕ) (w : Setting) (history : List Entry) (bytes : List ℕ) (r : Report) → report_in bytes ≡ Some r → (confirmed key w history bytes ≡ Yes) ↔ IsOnPass key w history r
   pub instants : (key : List ℕ) (w : Setting) (history : List Entry) (r : Report) → IsSetting w → IsLegal w history → IsOnPass key w history r → IsConfirmed key w history r
@@ -104,7 +104,7 @@ names_differ : LawsOfTelling → (files : SetupFiles) → PlanSaid files.plan �
 unfolding written_of
 names_differ l files said shows_waits outcome = l.names said.text files.plan said.said (challenge_ends (judge_of files) files.admissions outcome.passes) outcome
 
-outcome_tells : LawsOfTelling → (files : SetupFiles) → PlanSaid files.plan → (shows_waits : Bool) (outcome : Outcome) → (is_cut outcome ≡ false → IsWholeRun (run_setup files) outcome)
+outcome_tells : LawsOfTelling → (files : SetupFiles) → PlanSaid files.plan → (shows_waits : Bool) (outcome : Outcome) → (is_cut outcome ≡ false → IsFinishedRun (run_setup files) outcome)
     → (w : Written) → w ≡ run_written files shows_waits outcome → (status : Status) (before after : Moment) → WroteAll w status before after
     → OutcomeTells files outcome (run_written files shows_waits outcome) status before after
 outcome_tells l files said shows_waits outcome whole w is status before after wrote =

@@ -35,7 +35,7 @@ use Rattle.trace.specs.declared.confirm.Confirmed.TheVariants.{Yes}
 use Rattle.trace.specs.Confirm.{IsConfirmed, confirmed}
 use Rattle.trace.specs.Whole.{IsTrace}
 use Rattle.generated.specs.Generated.{generated_key, generated_schedule, generated_setup}
-use Rattle.device_commands.specs.RunWritten.{IsWholeRun}
+use Rattle.device_commands.specs.RunWritten.{IsFinishedRun}
 use Rattle.device_commands.specs.Plans.{attested_image, run_setup, IsThreadedOutcome}
 use Rattle.trace_commands.specs.Checks.{answer_lines, answers_of, broken_line, is_yes, legal_line}
 use Rattle.trace_commands.specs.GeneratedRuns.{written_of_generated}
@@ -150,7 +150,7 @@ pub record OutcomeTells (files : SetupFiles) (outcome : Outcome) (w : Written) (
   pub ends : status ≡ status_of w.ending
   pub told : All (λ file. HasBytes after.files.held file.name file.bytes) w.files
   pub grown : after.out ≡ with_appended w.out before.out
-  pub whole : IsUncut status → IsWholeRun (run_setup files) outcome
+  pub whole : IsUncut status → IsFinishedRun (run_setup files) outcome
 
 -- The device file, the schedule and the files that the device file names were read, and the device has run under the
 -- schedule. It has one legal history, which is that of the scheduled turns; in it each actor's own entries are its
@@ -228,7 +228,7 @@ pub record GenTells (seed : ℕ) (status : Status) (before after : Moment) : Typ
   pub told : YesTells generated_key outcome.chronicle
   pub ends : status ≡ status_of (written_of_generated generated_key outcome).ending
   pub grown : after.out ≡ with_appended (written_of_generated generated_key outcome).out before.out
-  pub whole : IsUncut status → IsWholeRun (generated_setup seed) outcome
+  pub whole : IsUncut status → IsFinishedRun (generated_setup seed) outcome
 
 -- all was written
 abbrev pub AllWritten : Status → Type 0

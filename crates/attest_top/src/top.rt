@@ -12,7 +12,7 @@ use crate::prepare::prepare_still;
 use att_base::{Files, Gate, Sink, Source, Words};
 use chronicle::broken_is_exact;
 use command_plans::{NoParts, Output, Stop};
-use device_commands::{TraceParts, files_have_different_names, prepare_run, uncut_runs_are_whole};
+use device_commands::{TraceParts, files_have_different_names, prepare_run, uncut_runs_are_finished};
 use std::alloc::Global;
 use std::sync::Wait;
 use std::thread::Threads;
@@ -38,7 +38,7 @@ pub fn attest_still<F: Files, S: Source, O: Sink, E: Sink>(
 {
     one_plan();
     files_have_different_names();
-    uncut_runs_are_whole();
+    uncut_runs_are_finished();
     broken_is_exact();
     confirmed_is_exact();
     let Some(command) = parse_still(words) else {
@@ -70,7 +70,7 @@ pub fn attest_run<R: Threads + Wait + Sync, F: Files, S: Source, O: Sink, E: Sin
 {
     one_plan();
     files_have_different_names();
-    uncut_runs_are_whole();
+    uncut_runs_are_finished();
     broken_is_exact();
     confirmed_is_exact();
     let Some(device) = device_to_run(words) else {

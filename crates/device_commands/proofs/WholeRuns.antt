@@ -34,7 +34,7 @@ use Rattle.device.specs.Runs.{IsRunOf, act_now, entries_of, measurer_acts, next_
 use Rattle.device.specs.Outcomes.{AreAppEnds, ArePassEnds, FallsShort, IsAppEnd, acts_of, run_end}
 use Rattle.device_inputs.specs.declared.admitting.Admission.{Admission}
 use Rattle.device_commands.specs.ChallengeEnds.{Judge, challenge_ends}
-use Rattle.device_commands.specs.RunWritten.{AreAnswered, HasEnded, IsWholeRun, ending_of_run, is_accepted, is_cut, is_cut_pass, is_cut_run, is_full, written_of}
+use Rattle.device_commands.specs.RunWritten.{AreAnswered, HasEndedByItself, IsFinishedRun, ending_of_run, is_accepted, is_cut, is_cut_pass, is_cut_run, is_full_ending, written_of}
 use Rattle.device_commands.proofs.RunNames.{neither}
 
 -- ---- nobody was cut short
@@ -43,11 +43,11 @@ ends_by_itself : (end : RunEnd) → is_cut_run end ≡ false → (ending : AppEn
 ends_by_itself (run.Ended ending) uncut = (ending, refl)
 ends_by_itself (run.Full place) uncut = absurd (false≢true (sym uncut))
 
-all_ended : (apps : List AppEnd) → list_any (λ app. is_cut_run app.run.end) apps ≡ false → All HasEnded apps
-all_ended [] uncut = All-nil HasEnded
+all_ended : (apps : List AppEnd) → list_any (λ app. is_cut_run app.run.end) apps ≡ false → All HasEndedByItself apps
+all_ended [] uncut = All-nil HasEndedByItself
 all_ended (app ∷ apps) uncut =
     let both = neither (is_cut_run app.run.end) (list_any (λ other. is_cut_run other.run.end) apps) uncut in
-    All-cons HasEnded app apps (ends_by_itself app.run.end both.0) (all_ended apps both.1)
+    All-cons HasEndedByItself app apps (ends_by_itself app.run.end both.0) (all_ended apps both.1)
 
 has_note : (key : List ℕ) (c : Challenge) (history : List Entry) (report : Report) (note : Option Note) → HasNoteOn key c history report note → is_some note ≡ is_extended c.discipline
 has_note key c history report None has = sym has
@@ -61,7 +61,7 @@ all_answered s history made (c ∷ more) (pass.Done report note ∷ ends) are un
 all_answered s history made (c ∷ more) (pass.Full report ∷ ends) are uncut = absurd (false≢true (sym uncut))
 all_answered s history made (c ∷ more) (pass.NotStarted ∷ ends) are uncut = absurd are
 
-pub uncut_is_whole : (s : Setup) (history : List Entry) (made : List Act) (outcome : Outcome) → AreAppEnds s.programs history outcome.apps → ArePassEnds s history made s.challenges outcome.passes → is_cut outcome ≡ false → IsWholeRun s outcome
+pub uncut_is_whole : (s : Setup) (history : List Entry) (made : List Act) (outcome : Outcome) → AreAppEnds s.programs history outcome.apps → ArePassEnds s history made s.challenges outcome.passes → is_cut outcome ≡ false → IsFinishedRun s outcome
 unfolding is_cut
 uncut_is_whole s history made outcome apps passes uncut =
     let both = neither (list_any (λ app. is_cut_run app.run.end) outcome.apps) (list_any is_cut_pass outcome.passes) uncut in
@@ -150,11 +150,11 @@ below_is_uncut s history outcome whole below apps passes =
 
 -- ---- the ending
 
-by_test : (cut accepted : Bool) (cap : ℕ) → is_full (if cut then Full cap else (if accepted then Accepted else Refused)) ≡ cut
+by_test : (cut accepted : Bool) (cap : ℕ) → is_full_ending (if cut then Full cap else (if accepted then Accepted else Refused)) ≡ cut
 by_test true accepted cap = refl
 by_test false true cap = refl
 by_test false false cap = refl
 
-pub full_where_cut : (plan : DevicePlan) (by : Judge) (admissions : List Admission) (shows_waits : Bool) (outcome : Outcome) → is_full (written_of plan by admissions shows_waits outcome).ending ≡ is_cut outcome
+pub full_where_cut : (plan : DevicePlan) (by : Judge) (admissions : List Admission) (shows_waits : Bool) (outcome : Outcome) → is_full_ending (written_of plan by admissions shows_waits outcome).ending ≡ is_cut outcome
 unfolding written_of ending_of_run
 full_where_cut plan by admissions shows_waits outcome = by_test (is_cut outcome) (list_all is_accepted (challenge_ends by admissions outcome.passes)) plan.cap

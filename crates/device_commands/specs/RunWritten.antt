@@ -105,16 +105,16 @@ unfoldable pub ending_of_run : ℕ → List ChallengeEnd → Outcome → Ending
 ending_of_run cap ends outcome = if is_cut outcome then Full cap else (if list_all is_accepted ends then Accepted else Refused)
 
 -- the ending tells of a full history
-abbrev pub is_full : Ending → Bool
-is_full Accepted = false
-is_full Refused = false
-is_full (Full cap) = true
+abbrev pub is_full_ending : Ending → Bool
+is_full_ending Accepted = false
+is_full_ending Refused = false
+is_full_ending (Full cap) = true
 
 -- ---- a whole run
 
 -- the application has ended by itself: it has exited, it was stopped by a trap, or its fuel was used up
-abbrev pub HasEnded : AppEnd → Type 0
-HasEnded app = (ending : AppEnding) × (app.run.end ≡ run.Ended ending)
+abbrev pub HasEndedByItself : AppEnd → Type 0
+HasEndedByItself app = (ending : AppEnding) × (app.run.end ≡ run.Ended ending)
 
 -- the challenge has its report, and exactly in an extended discipline its note
 abbrev pub IsAnswered : Challenge → PassEnd → Type 0
@@ -129,9 +129,9 @@ AreAnswered (c ∷ more) (end ∷ ends) = IsAnswered c end × AreAnswered more e
 AreAnswered _ _ = ⊥
 
 -- every application has ended by itself, and every challenge that the device serves is answered
-pub record IsWholeRun (s : Setup) (outcome : Outcome) : Type 0 where
+pub record IsFinishedRun (s : Setup) (outcome : Outcome) : Type 0 where
   pub count : length outcome.apps ≡ length s.programs
-  pub ended : All HasEnded outcome.apps
+  pub ended : All HasEndedByItself outcome.apps
   pub answered : AreAnswered s.challenges outcome.passes
 
 -- ---- all of it

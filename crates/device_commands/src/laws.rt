@@ -22,7 +22,7 @@ ghost use Rattle.device_inputs.specs.declared.admitting.Admission.{Admission};
 ghost use Rattle.device_commands.specs.declared.ends.ChallengeEnd.{ChallengeEnd};
 ghost use Rattle.device_commands.specs.ChallengeEnds.{IsSoundPass, Judge};
 ghost use Rattle.device_commands.specs.Plans.{IsThreadedOutcome};
-ghost use Rattle.device_commands.specs.RunWritten.{IsWholeRun, is_cut, is_full, names_of, run_files, written_of};
+ghost use Rattle.device_commands.specs.RunWritten.{IsFinishedRun, is_cut, is_full_ending, names_of, run_files, written_of};
 
 use trace::legal_entries_are_printable;
 
@@ -50,13 +50,13 @@ pub fn files_have_different_names()
 /// A run in which no actor met a full history is whole: every application has ended by itself, and every challenge that the
 /// device serves has its report and, in an extended discipline, its note. No actor meets it where the history is below its
 /// cap. This holds of runs on threads and of scheduled runs alike.
-pub fn uncut_runs_are_whole()
+pub fn uncut_runs_are_finished()
     ensures threaded { (s : Setup) (outcome : Outcome) → IsThreadedOutcome s outcome
-        → is_cut outcome ≡ false → IsWholeRun s outcome }
+        → is_cut outcome ≡ false → IsFinishedRun s outcome }
     ensures threaded_below { (s : Setup) (outcome : Outcome) → IsThreadedOutcome s outcome
         → length outcome.chronicle.entries < s.world.cap → is_cut outcome ≡ false }
     ensures scheduled { (s : Setup) (schedule : List Run) (outcome : Outcome) → IsScheduledOutcome s schedule outcome
-        → is_cut outcome ≡ false → IsWholeRun s outcome }
+        → is_cut outcome ≡ false → IsFinishedRun s outcome }
     ensures scheduled_below { (s : Setup) (schedule : List Run) (outcome : Outcome) → IsScheduledOutcome s schedule outcome
         → length outcome.chronicle.entries < s.world.cap → is_cut outcome ≡ false }
 {}
@@ -64,5 +64,5 @@ pub fn uncut_runs_are_whole()
 /// The command ends with `Full` exactly where an actor met a full history.
 pub fn cut_runs_end_full()
     ensures { (plan : DevicePlan) (by : Judge) (admissions : List Admission) (shows_waits : Bool) (outcome : Outcome)
-        → is_full (written_of plan by admissions shows_waits outcome).ending ≡ is_cut outcome }
+        → is_full_ending (written_of plan by admissions shows_waits outcome).ending ≡ is_cut outcome }
 {}

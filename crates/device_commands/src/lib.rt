@@ -25,7 +25,7 @@ pub use ends::{ChallengeEnd, Judge, ReleaseEnd};
 pub use image::prepare_image;
 pub use laws::{
     cut_runs_end_full, files_have_different_names, measurements_are_sound, runs_are_printable,
-    uncut_runs_are_whole,
+    uncut_runs_are_finished,
 };
 pub use outputs::is_cut;
 pub use run_lines::{

@@ -17,11 +17,11 @@ use Rattle.rv_core.specs.Runs.{AppProgram, app_program, started}
 use Rattle.device_config.specs.declared.plans.DevicePlan.{DevicePlan}
 use Rattle.device.specs.Setups.{programs_at, setup_of}
 use Rattle.generated.specs.Draws.{draw}
-use Rattle.generated.specs.Generated.{application_block, application_blocks, asked, challenges, first_address, generated_key, generated_run, generated_schedule, generated_setup, image, layout, run_count}
+use Rattle.generated.specs.Generated.{application_block, application_blocks, asked, challenges, first_address, generated_key, generated_run, generated_schedule, generated_setup, generated_layout, image, run_count}
 use Rattle.generated.specs.Parts.{IsGeneratedPlan, counting_app}
 use Rattle.generated.proofs.NextDraws.{draw_below}
 
-pub layout_fits : IsLayout layout
+pub layout_fits : IsLayout generated_layout
 layout_fits = record {
   block_size = (8, omega arith, omega arith, refl);
   some_block = omega arith;
@@ -35,7 +35,7 @@ pub ranges_fit : IsRanges (record { first = 0; attested = 64 } ∷ [])
 ranges_fit = record { some = omega arith; few = omega arith; apart = omega arith; low = omega arith }
 
 -- memory with these bytes makes a world
-pub world_fits : (bytes : List ℕ) → length bytes ≡ 65536 → All (λ byte. byte < 256) bytes → IsSetting (setting_of layout (record { first = 0; attested = 64 } ∷ []) bytes 400000)
+pub world_fits : (bytes : List ℕ) → length bytes ≡ 65536 → All (λ byte. byte < 256) bytes → IsSetting (setting_of generated_layout (record { first = 0; attested = 64 } ∷ []) bytes 400000)
 world_fits bytes count small = record {
   layout = layout_fits;
   ranges = ranges_fit;
@@ -48,9 +48,9 @@ world_fits bytes count small = record {
 
 -- the program of the application that begins at such an address
 abbrev pub counting_program : ℕ → AppProgram
-counting_program k = app_program (started layout (first_address k) 0) 20000
+counting_program k = app_program (started generated_layout (first_address k) 0) 20000
 
-pub programs_are : (first count : ℕ) → programs_at layout (replicate count counting_app) (map first_address (range_with_len first count)) ≡ map counting_program (range_with_len first count)
+pub programs_are : (first count : ℕ) → programs_at generated_layout (replicate count counting_app) (map first_address (range_with_len first count)) ≡ map counting_program (range_with_len first count)
 programs_are first zero = refl
 programs_are first (suc count) = ap (λ more. counting_program first ∷ more) (programs_are (first + 1) count)
 

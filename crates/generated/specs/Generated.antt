@@ -36,8 +36,8 @@ application_block seed k = zero_padded 256 (code (program (counter_address seed 
 
 -- ---- memory: 256 blocks of 256 bytes, of which the first 64 are attested
 
-abbrev pub layout : Layout
-layout = record { base = 0x80000000; size = 256; blocks = 256 }
+abbrev pub generated_layout : Layout
+generated_layout = record { base = 0x80000000; size = 256; blocks = 256 }
 
 unfoldable pub application_blocks : ℕ → List ℕ
 application_blocks seed = flat_map (application_block seed) (range_with_len 0 8)
@@ -67,8 +67,8 @@ generated_key = codes "gen"
 -- it has the eight applications, which begin with no stack and may fetch 20,000 times
 unfoldable pub generated_setup : ℕ → Setup
 generated_setup seed = record {
-  world = setting_of layout (record { first = 0; attested = 64 } ∷ []) (image seed) 400000;
-  programs = map (λ k. app_program (started layout (first_address k) 0) 20000) (range_with_len 0 8);
+  world = setting_of generated_layout (record { first = 0; attested = 64 } ∷ []) (image seed) 400000;
+  programs = map (λ k. app_program (started generated_layout (first_address k) 0) 20000) (range_with_len 0 8);
   key = generated_key;
   challenges = challenges seed;
 }

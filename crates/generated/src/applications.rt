@@ -3,7 +3,7 @@
 ghost use Rattle.std.specs.Prelude.{◌≡◌, ◌<◌, ◌≤◌, ◌++◌, ◌+◌, ◌*◌, length, IfOk, OnOk};
 ghost use Rattle.rv_decode.specs.declared.instruction.Instr.TheVariants.{Imm};
 ghost use Rattle.rv_decode.specs.declared.instruction.ImmOp.TheVariants.{Addi};
-ghost use Rattle.generated.specs.Applications.{code, little_endian, zero_padded, program, rest, upper};
+ghost use Rattle.generated.specs.Applications.{code, little_endian, zero_padded, program, addi_rest, lui_field};
 
 use rv_decode::{BranchOp, ImmOp, Instr, LoadOp, StoreOp, encode};
 use std::alloc::{AllocError, Global};
@@ -35,16 +35,16 @@ fn addi(rd: u32, rs1: u32, imm: i32) -> Instr
 }
 
 // The field of `lui` nearest to a number.
-fn upper(number: u32) -> u32
-    ensures { result ≡ upper number }
+fn lui_field(number: u32) -> u32
+    ensures { result ≡ lui_field number }
 {
     let high = (u64::from(number) + 0x800) / 4096;
     (high % 0x10_0000) as u32
 }
 
 // What `addi` adds to it.
-fn rest(number: u32) -> i32
-    ensures { result ≡ rest number }
+fn addi_rest(number: u32) -> i32
+    ensures { result ≡ addi_rest number }
 {
     let high = (u64::from(number) + 0x800) / 4096;
     (i64::from(number) - (high * 4096) as i64) as i32
@@ -59,9 +59,9 @@ fn program(address: u32, count: u32) -> [Instr; 11]
     [
         Instr::Lui {
             rd: T0,
-            imm: upper(address),
+            imm: lui_field(address),
         },
-        addi(T0, T0, rest(address)),
+        addi(T0, T0, addi_rest(address)),
         addi(T1, 0, count as i32),
         Instr::Load {
             op: LoadOp::Lw,

@@ -2,7 +2,7 @@
 
 ghost use Rattle.std.specs.Prelude.{◌≡◌, ◌∷◌, [], map, replicate, IfOk};
 ghost use Rattle.std.specs.List.{range_with_len};
-ghost use Rattle.generated.specs.Generated.{first_address, layout};
+ghost use Rattle.generated.specs.Generated.{first_address, generated_layout};
 ghost use Rattle.generated.specs.Parts.{IsGeneratedPlan, counting_app};
 
 use block_memory::Geometry;
@@ -58,7 +58,7 @@ pub fn entries_of(alloc: Global) -> Result<Items<u32>, AllocError>
 
 // Where memory lies.
 fn geometry() -> Geometry
-    ensures { result ≡ layout }
+    ensures { result ≡ generated_layout }
 {
     match Geometry::new(0x8000_0000, 256, 256) {
         Some(geometry) => geometry,

@@ -15,7 +15,7 @@ use Rattle.history.specs.Layout.{Layout, IsLayout}
 use Rattle.text_readers.specs.Digits.{word_digits}
 use Rattle.trace.specs.Text.{memory_line, range_pair, attest_line}
 use Rattle.trace.specs.Reading.{text_behind, digits_at, decimal_at}
-use Rattle.trace.specs.HeadReading.{memory_at, range_at, numbered_at}
+use Rattle.trace.specs.HeadReading.{memory_numbers, range_numbers, numbered_at}
 use Rattle.trace.proofs.Takes.{bind_some, behind_takes, word_takes, decimal_takes}
 use Rattle.trace.proofs.Again.{word_again, number_again}
 use Rattle.trace.proofs.Unique.{number_front}
@@ -43,8 +43,8 @@ memory_second base = text_behind (codes " ") base.1 >>= memory_third base.0
 abbrev memory_first : List ℕ → Numbers
 memory_first digits = digits_at 8 0 digits >>= memory_second
 
-pub memory_takes : (text : List ℕ) (y : ℕ × ℕ × ℕ × List ℕ) → memory_at text ≡ Some y → text ≡ memory_line (layout_by y.0 y.1 y.2) ++ 10 ∷ y.3
-unfolding memory_at
+pub memory_takes : (text : List ℕ) (y : ℕ × ℕ × ℕ × List ℕ) → memory_numbers text ≡ Some y → text ≡ memory_line (layout_by y.0 y.1 y.2) ++ 10 ∷ y.3
+unfolding memory_numbers
 memory_takes text y h =
     let s1 = bind_some (text_behind (codes "memory ") text) memory_first y h in
     let s2 = bind_some (digits_at 8 0 s1.0) memory_second y s1.2 in
@@ -62,8 +62,8 @@ memory_takes text y h =
     t1 ∙ ap (λ t. codes "memory " ++ t) (base.1 ∙ ap (λ t. word_digits s2.0.0 ++ t) (t3 ∙ ap (λ t. 32 ∷ t) (size.1 ∙ ap (λ t. decimal s4.0.0 ++ 32 ∷ t) blocks.1)) ∙ sym (memory_regroup l s5.0.1)) in
     subst (λ p. text ≡ memory_line (layout_by p.0 p.1 p.2) ++ 10 ∷ p.3) same spelled
 
-pub memory_again : (l : Layout) (rest : List ℕ) → IsLayout l → memory_at (memory_line l ++ 10 ∷ rest) ≡ Some (l.base, l.size, l.blocks, rest)
-unfolding memory_at
+pub memory_again : (l : Layout) (rest : List ℕ) → IsLayout l → memory_numbers (memory_line l ++ 10 ∷ rest) ≡ Some (l.base, l.size, l.blocks, rest)
+unfolding memory_numbers
 memory_again l rest v =
     let size : l.size < 2 ^ 64 = omega (arith, (block_low l.size v.block_size).1) in
     let blocks : l.blocks < 2 ^ 64 = omega (arith, v.few_blocks) in
@@ -95,8 +95,8 @@ range_told first attested = when (nat_le first 4096 && nat_le attested.0 4096) (
 abbrev range_rest : ℕ → ℕ × List ℕ → Option (Range × List ℕ)
 range_rest end first = decimal_at end first.1 >>= range_told first.0
 
-pub range_takes : (end : ℕ) (text : List ℕ) (y : Range × List ℕ) → range_at end text ≡ Some y → IsLow y.0 × (text ≡ decimal y.0.first ++ 32 ∷ (decimal y.0.attested ++ end ∷ y.1))
-unfolding range_at
+pub range_takes : (end : ℕ) (text : List ℕ) (y : Range × List ℕ) → range_numbers end text ≡ Some y → IsLow y.0 × (text ≡ decimal y.0.first ++ 32 ∷ (decimal y.0.attested ++ end ∷ y.1))
+unfolding range_numbers
 range_takes end text y h =
     let s1 = bind_some (decimal_at 32 text) (range_rest end) y h in
     let s2 = bind_some (decimal_at end s1.0.1) (range_told s1.0.0) y s1.2 in
@@ -109,8 +109,8 @@ range_takes end text y h =
     ((leb-true s1.0.0 4096 low.0, leb-true s2.0.0 4096 low.1), first.1 ∙ ap (λ t. decimal s1.0.0 ++ 32 ∷ t) attested.1) in
     subst (λ p. IsLow p.0 × (text ≡ decimal p.0.first ++ 32 ∷ (decimal p.0.attested ++ end ∷ p.1))) told.1 found
 
-pub range_again : (end : ℕ) (r : Range) (rest : List ℕ) → end < 48 → IsLow r → range_at end (decimal r.first ++ 32 ∷ (decimal r.attested ++ end ∷ rest)) ≡ Some (r, rest)
-unfolding range_at
+pub range_again : (end : ℕ) (r : Range) (rest : List ℕ) → end < 48 → IsLow r → range_numbers end (decimal r.first ++ 32 ∷ (decimal r.attested ++ end ∷ rest)) ≡ Some (r, rest)
+unfolding range_numbers
 range_again end r rest small low =
     let first : r.first < 2 ^ 64 = omega (arith, low.0) in
     let attested : r.attested < 2 ^ 64 = omega (arith, low.1) in
@@ -163,15 +163,15 @@ next_range (t ∷ taken) (r ∷ ranges) text rest p q h =
     space_begins (q ∷ more) r = (32, drop 1 (flat_map range_pair (q ∷ more) ++ 32 ∷ r), omega arith, refl)
 
 -- where another range follows a space stands behind the next one, else the line ends there
-pub next_read : (taken ranges : List Range) (text rest : List ℕ) → (n : NextRange taken ranges text rest) → ((n.more ≡ []) × (range_at 10 text ≡ Some (n.next, rest))) ⊎ ((t : List ℕ) × (range_at 32 text ≡ Some (n.next, t)))
+pub next_read : (taken ranges : List Range) (text rest : List ℕ) → (n : NextRange taken ranges text rest) → ((n.more ≡ []) × (range_numbers 10 text ≡ Some (n.next, rest))) ⊎ ((t : List ℕ) × (range_numbers 32 text ≡ Some (n.next, t)))
 next_read taken ranges text rest n = go n.more n.low n.spelled
   where
-    go : (more : List Range) → AllByRecursion IsLow (n.next ∷ more) → text ≡ decimal n.next.first ++ 32 ∷ (decimal n.next.attested ++ (flat_map range_pair more ++ 10 ∷ rest)) → ((more ≡ []) × (range_at 10 text ≡ Some (n.next, rest))) ⊎ ((t : List ℕ) × (range_at 32 text ≡ Some (n.next, t)))
-    go [] low is = inl (refl, ap (range_at 10) is ∙ range_again 10 n.next rest (omega arith) low.0)
+    go : (more : List Range) → AllByRecursion IsLow (n.next ∷ more) → text ≡ decimal n.next.first ++ 32 ∷ (decimal n.next.attested ++ (flat_map range_pair more ++ 10 ∷ rest)) → ((more ≡ []) × (range_numbers 10 text ≡ Some (n.next, rest))) ⊎ ((t : List ℕ) × (range_numbers 32 text ≡ Some (n.next, t)))
+    go [] low is = inl (refl, ap (range_numbers 10) is ∙ range_again 10 n.next rest (omega arith) low.0)
     go (q ∷ more) low is =
         let behind = decimal q.first ++ 32 ∷ (decimal q.attested ++ (flat_map range_pair more ++ 10 ∷ rest)) in
         let spaced = is ∙ ap (λ t. decimal n.next.first ++ 32 ∷ (decimal n.next.attested ++ t)) (range_regroup q (flat_map range_pair more) (10 ∷ rest)) in
-        inr (behind, ap (range_at 32) spaced ∙ range_again 32 n.next behind (omega arith) low.0)
+        inr (behind, ap (range_numbers 32) spaced ∙ range_again 32 n.next behind (omega arith) low.0)
 
 -- nothing is read where something is
 pub unread : {A : Type 0} (o : Option A) (y : A) → None ≡ o → o ≡ Some y → ⊥

@@ -9,8 +9,8 @@ abbrev pub version_word : Bool → List ℕ
 version_word several = if several then codes "TMT2" else codes "TMT1"
 
 -- `memory BASE SIZE BLOCKS`, up to the line's end
-unfoldable pub memory_at : List ℕ → Option (ℕ × ℕ × ℕ × List ℕ)
-memory_at text = do
+unfoldable pub memory_numbers : List ℕ → Option (ℕ × ℕ × ℕ × List ℕ)
+memory_numbers text = do
   digits ← text_behind (codes "memory ") text
   base ← digits_at 8 0 digits
   sizes ← text_behind (codes " ") base.1
@@ -19,8 +19,8 @@ memory_at text = do
   Some (base.0, size.0, blocks.0, blocks.1)
 
 -- `FIRST ATTESTED`, numbers up to 4,096, and the byte that ends them
-unfoldable pub range_at : ℕ → List ℕ → Option (Range × List ℕ)
-range_at end text = do
+unfoldable pub range_numbers : ℕ → List ℕ → Option (Range × List ℕ)
+range_numbers end text = do
   first ← decimal_at 32 text
   attested ← decimal_at end first.1
   when (nat_le first.0 4096 && nat_le attested.0 4096) (record { first = first.0; attested = attested.0 }, attested.1)

@@ -8,7 +8,7 @@ ghost use Rattle.history.specs.declared.ranges.Range.{Range};
 ghost use Rattle.history.specs.Attested.{IsRanges};
 ghost use Rattle.history.specs.Layout.{Layout, IsLayout};
 ghost use Rattle.trace.specs.Text.{memory_line, range_pair, attest_line, cap_line};
-ghost use Rattle.trace.specs.HeadReading.{version_word, memory_at, range_at, numbered_at};
+ghost use Rattle.trace.specs.HeadReading.{version_word, memory_numbers, range_numbers, numbered_at};
 
 use crate::reading::{decimal_at, digits_at, text_behind};
 use chronicle::{Geometry, Range, Ranges};
@@ -29,9 +29,9 @@ pub fn version_line(text: &[u8]) -> Option<(bool, &[u8])>
 }
 
 // `memory BASE SIZE BLOCKS`, up to the line's end.
-#[tactic(auto, unfolding(crate::specs::HeadReading::memory_at))]
-fn memory_at(text: &[u8]) -> Option<(u32, u64, u64, &[u8])>
-    ensures { option_map (λ found. (found.0, found.1, found.2, found.3.now)) result ≡ memory_at text.now }
+#[tactic(auto, unfolding(crate::specs::HeadReading::memory_numbers))]
+fn memory_numbers(text: &[u8]) -> Option<(u32, u64, u64, &[u8])>
+    ensures { option_map (λ found. (found.0, found.1, found.2, found.3.now)) result ≡ memory_numbers text.now }
 {
     let digits = text_behind(b"memory ", text)?;
     let (base, sizes) = digits_at(8, digits)?;
@@ -59,7 +59,7 @@ pub fn memory_line(text: &[u8]) -> Option<(Geometry, &[u8])>
     ensures none { IfNone result ((layout : Layout) (rest : List ℕ) → IsLayout layout
         → text.now ≢ memory_line layout ++ 10 ∷ rest) }
 {
-    let Some((base, size, blocks, rest)) = memory_at(text) else {
+    let Some((base, size, blocks, rest)) = memory_numbers(text) else {
         return None;
     };
     match geometry_of(base, size, blocks) {
@@ -69,9 +69,9 @@ pub fn memory_line(text: &[u8]) -> Option<(Geometry, &[u8])>
 }
 
 // `FIRST ATTESTED`, numbers up to 4,096, and the byte that ends them.
-#[tactic(auto, unfolding(crate::specs::HeadReading::range_at))]
-fn range_at(end: u8, text: &[u8]) -> Option<(Range, &[u8])>
-    ensures { option_map (λ found. (found.0, found.1.now)) result ≡ range_at end text.now }
+#[tactic(auto, unfolding(crate::specs::HeadReading::range_numbers))]
+fn range_numbers(end: u8, text: &[u8]) -> Option<(Range, &[u8])>
+    ensures { option_map (λ found. (found.0, found.1.now)) result ≡ range_numbers end text.now }
 {
     let (first, rest) = decimal_at(b' ', text)?;
     let (attested, rest) = decimal_at(end, rest)?;
@@ -100,13 +100,13 @@ fn ranges_line(text: &[u8]) -> Option<(Ranges, &[u8])>
     }; 8];
     let mut left = text;
     for place in 0..8 {
-        match range_at(b' ', left) {
+        match range_numbers(b' ', left) {
             Some((range, rest)) => {
                 list[place] = range;
                 left = rest;
             }
             None => {
-                let Some((range, rest)) = range_at(b'\n', left) else {
+                let Some((range, rest)) = range_numbers(b'\n', left) else {
                     return None;
                 };
                 list[place] = range;

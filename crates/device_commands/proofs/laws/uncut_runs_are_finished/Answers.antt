@@ -3,7 +3,7 @@ use Rattle.history.specs.declared.events.Entry.{Entry}
 use Rattle.device_commands.proofs.WholeRuns.{below_is_uncut, uncut_is_whole}
 use Rattle.device.specs.Outcomes.{acts_of}
 use Rattle.device.specs.Runs.{entries_of}
-use Rattle.device_commands.proofs.laws.uncut_runs_are_whole.Goals as goal
+use Rattle.device_commands.proofs.laws.uncut_runs_are_finished.Goals as goal
 
 pub returns-clause-threaded : goal.returns-clause-threaded
 returns-clause-threaded c s outcome ran = uncut_is_whole s outcome.chronicle.entries (acts_of (entries_of outcome.chronicle.entries 0)) outcome ran.apps ran.passes
