@@ -12,7 +12,9 @@ use crate::prepare::prepare_still;
 use att_base::{Files, Gate, Sink, Source, Words};
 use chronicle::broken_is_exact;
 use command_plans::{NoParts, Output, Stop};
-use device_commands::{TraceParts, files_have_different_names, prepare_run, uncut_runs_are_finished};
+use device_commands::{
+    TraceParts, files_have_different_names, prepare_run, uncut_runs_are_finished,
+};
 use std::alloc::Global;
 use std::sync::Wait;
 use std::thread::Threads;

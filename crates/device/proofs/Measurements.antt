@@ -26,7 +26,7 @@ use Rattle.measure.specs.declared.stepping.Measuring.{Measuring}
 use Rattle.measure.specs.Machine.{acts_left}
 use Rattle.measure.specs.Measured.{IsNoteOn, IsReportOn}
 use Rattle.measure.specs.Program.{HasMade, MayStart, closing_acts, copies, measuring_program, measuring_programs, pass_acts}
-use Rattle.measure.specs.Stepping.{HasNoteOn, HasTurned, HasTurnedAlone, IsStanding, Stands, is_last, is_over, left_of, note_of, report_of, stage_of, stage_report}
+use Rattle.measure.specs.Stepping.{HasNoteOn, TakesStep, TakesStepAlone, IsStanding, Stands, is_last, is_over, left_of, note_of, report_of, stage_of, stage_report}
 use Rattle.device.specs.declared.tallies.Tally.{Tally}
 use Rattle.device.specs.declared.tallies.Stepped.TheVariants.{Over, Made, Full}
 use Rattle.device.specs.declared.outcomes.PassEnd.{PassEnd}
@@ -180,7 +180,7 @@ pub pass_over : OwnAppend → (key : List ℕ) (w : Setting) (history : List Ent
 pass_over append key w history p s is run = over_turn w 0 (next_step_of w history p) (actor_at history p.tally) run (next_over append key w history p s is)
 
 pub pass_made : OwnAppend → EntryLess → (key : List ℕ) (w : Setting) (old new : List Entry) (p : Passes) (m after : Measuring) (place : ℕ) → IsSteppingOn key w old p → p.under_way ≡ Some m → p.tally.stopped ≡ false → IsLegal w new
-    → HasTurned w old new m after (step.Done place) → HasTurnedAlone w old new m (step.Done place) → ComesTo w 0 (next_step_of w old p) (actor_at old p.tally) (actor_at new p.tally) (Made place)
+    → TakesStep w old new m after (step.Done place) → TakesStepAlone w old new m (step.Done place) → ComesTo w 0 (next_step_of w old p) (actor_at old p.tally) (actor_at new p.tally) (Made place)
 pass_made append less key w old new p m after place s is run legal turned alone =
     let next = turned.0 in
     let grown : new ≡ old ++ entry_by 0 next ∷ [] = alone next (left_of w after) turned.1 in
@@ -190,7 +190,7 @@ pass_made append less key w old new p m after place s is run legal turned alone 
     (ap (λ l. actor_at l p.tally) grown ∙ made.0, ap Made here ∙ made.1)
 
 pub pass_full : OwnAppend → (key : List ℕ) (w : Setting) (old new : List Entry) (p : Passes) (m after : Measuring) (place : ℕ) → IsSteppingOn key w old p → p.under_way ≡ Some m → p.tally.stopped ≡ false → is_over m ≡ false
-    → HasTurned w old new m after (step.Full place) → HasTurnedAlone w old new m (step.Full place) → ComesTo w 0 (next_step_of w old p) (actor_at old p.tally) (actor_at new (record (p.tally) { stopped = true })) (Full place)
+    → TakesStep w old new m after (step.Full place) → TakesStepAlone w old new m (step.Full place) → ComesTo w 0 (next_step_of w old p) (actor_at old p.tally) (actor_at new (record (p.tally) { stopped = true })) (Full place)
 pass_full append key w old new p m after place s is run more turned alone =
     let n = next_act_left w m more in
     let same : new ≡ old = alone n.0 n.1 n.2 in
@@ -231,7 +231,7 @@ StandsOn key w old new m after = (c : Challenge) (first : List Entry) → Stands
 
 -- after an entry of the measurer's
 pub stepped_made : ReportStays → NoteStays → (key : List ℕ) (w : Setting) (old new : List Entry) (p : Passes) (m after : Measuring) (place : ℕ) → IsSteppingOn key w old p → p.under_way ≡ Some m → p.tally.stopped ≡ false → IsSetting w → IsLegal w new
-    → HasTurned w old new m after (step.Done place) → HasTurnedAlone w old new m (step.Done place) → StandsOn key w old new m after → IsSteppingOn key w new (passes_with p after p.tally)
+    → TakesStep w old new m after (step.Done place) → TakesStepAlone w old new m (step.Done place) → StandsOn key w old new m after → IsSteppingOn key w new (passes_with p after p.tally)
 stepped_made reports notes key w old new p m after place s is run setting legal turned alone on =
     let grown : new ≡ old ++ entry_by 0 turned.0 ∷ [] = alone turned.0 (left_of w after) turned.1 in
     let f = first_under_way key w old p m s is in
@@ -250,7 +250,7 @@ stepped_made reports notes key w old new p m after place s is run setting legal 
 
 -- at a full history
 pub stepped_full : (key : List ℕ) (w : Setting) (old new : List Entry) (p : Passes) (m after : Measuring) (place : ℕ) → IsSteppingOn key w old p → p.under_way ≡ Some m → is_over m ≡ false
-    → HasTurned w old new m after (step.Full place) → HasTurnedAlone w old new m (step.Full place) → StandsOn key w old new m after → IsMeasuring key w new (passes_with p after (record (p.tally) { stopped = true }))
+    → TakesStep w old new m after (step.Full place) → TakesStepAlone w old new m (step.Full place) → StandsOn key w old new m after → IsMeasuring key w new (passes_with p after (record (p.tally) { stopped = true }))
 stepped_full key w old new p m after place s is more turned alone on =
     let n = next_act_left w m more in
     let same : new ≡ old = alone n.0 n.1 n.2 in

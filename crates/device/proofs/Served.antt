@@ -9,7 +9,7 @@ use Rattle.chronicle.specs.declared.answers.Step.TheVariants as step
 use Rattle.chronicle.specs.Ports.{OthersFollow, entry_by}
 use Rattle.measure.specs.declared.stepping.Measuring.{Measuring}
 use Rattle.measure.specs.Program.{HasMade}
-use Rattle.measure.specs.Stepping.{HasTurned, Stands, is_over}
+use Rattle.measure.specs.Stepping.{TakesStep, Stands, is_over}
 use Rattle.turn_cell.specs.Cells.{Cell, Token, longer_list}
 use Rattle.device.specs.declared.slots.Slot.{Slot}
 use Rattle.device.specs.declared.passes.Passes.{Passes}
@@ -29,7 +29,7 @@ ends_later reports notes key w old new more p s setting legal grown =
 
 -- after an entry of the measurer's
 pub served_made : ReportStays → NoteStays → (key : List ℕ) (w : Setting) (old new : List Entry) (p : Passes) (m after : Measuring) (place : ℕ) → IsSteppingOn key w old p → p.under_way ≡ Some m → p.tally.stopped ≡ false → IsSetting w → IsLegal w new
-    → HasTurned w old new m after (step.Done place) → StandsOn key w old new m after → IsSteppingOn key w new (passes_with p after p.tally)
+    → TakesStep w old new m after (step.Done place) → StandsOn key w old new m after → IsSteppingOn key w new (passes_with p after p.tally)
 served_made reports notes key w old new p m after place s is run setting legal turned on =
     let adds = turned.2.0 in
     let f = first_under_way key w old p m s is in
@@ -48,7 +48,7 @@ served_made reports notes key w old new p m after place s is run setting legal t
 
 -- at a full history
 pub served_full : ReportStays → NoteStays → (key : List ℕ) (w : Setting) (old new : List Entry) (p : Passes) (m after : Measuring) (place : ℕ) → IsSteppingOn key w old p → p.under_way ≡ Some m → is_over m ≡ false → IsSetting w → IsLegal w new
-    → HasTurned w old new m after (step.Full place) → StandsOn key w old new m after → IsMeasuring key w new (passes_with p after (record (p.tally) { stopped = true }))
+    → TakesStep w old new m after (step.Full place) → StandsOn key w old new m after → IsMeasuring key w new (passes_with p after (record (p.tally) { stopped = true }))
 served_full reports notes key w old new p m after place s is more setting legal turned on =
     let full = turned.1 in
     let f = first_under_way key w old p m s is in

@@ -8,7 +8,7 @@ ghost use Rattle.challenge.specs.declared.Challenge.{Challenge};
 ghost use Rattle.challenge.specs.Challenges.{IsChallenge};
 ghost use Rattle.chronicle.specs.Worlds.{shape_of};
 ghost use Rattle.measure.specs.Program.{measuring_programs};
-ghost use Rattle.measure.specs.Stepping.{HasTurned, HasTurnedAlone, IsStanding, Stands, is_over};
+ghost use Rattle.measure.specs.Stepping.{TakesStep, TakesStepAlone, IsStanding, Stands, is_over};
 ghost use Rattle.device.specs.Runs.{entries_of};
 ghost use Rattle.device.specs.Turns.{actor_at, own_answer, own_turn};
 ghost use Rattle.device.specs.Keeping.{BeginsNext, IsMeasuring, IsSteppingOn};
@@ -46,8 +46,8 @@ fn step_over(measuring: &mut Measuring, core: &mut MemCore, key: &[u8], buffer: 
     ensures stands { (c : Challenge) (old : List Entry)
         → Stands key.now core.old.world c old core.old.history measuring.old
         → Stands key.now core.old.world c old core.new.history measuring.new }
-    ensures turned { HasTurned core.old.world core.old.history core.new.history measuring.old measuring.new result }
-    ensures alone { HasTurnedAlone core.old.world core.old.history core.new.history measuring.old result }
+    ensures turned { TakesStep core.old.world core.old.history core.new.history measuring.old measuring.new result }
+    ensures alone { TakesStepAlone core.old.world core.old.history core.new.history measuring.old result }
 {
     let mut port = Direct::new(core, 0);
     measuring.turn(&mut port, key, buffer, &NoGate)

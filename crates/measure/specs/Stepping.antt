@@ -104,13 +104,13 @@ IsStanding key w seen m = (c : Challenge) × (old : List Entry) × Stands key w 
 
 -- What a turn says. Done: the first of the acts that were left is made, and the others are left. Full: the history
 -- was full, and nothing has changed.
-abbrev pub HasTurned : Setting → List Entry → List Entry → Measuring → Measuring → Step → Type 0
-HasTurned w old new before after (step.Done place) = (next : Act) × (left_of w before ≡ next ∷ left_of w after) × IsDone 0 1 old new next place
-HasTurned w old new before after (step.Full place) = (after ≡ before) × IsFull w 0 1 old new place
+abbrev pub TakesStep : Setting → List Entry → List Entry → Measuring → Measuring → Step → Type 0
+TakesStep w old new before after (step.Done place) = (next : Act) × (left_of w before ≡ next ∷ left_of w after) × IsDone 0 1 old new next place
+TakesStep w old new before after (step.Full place) = (after ≡ before) × IsFull w 0 1 old new place
 
 -- what it says where nobody but the port makes entries
-abbrev pub HasTurnedAlone : Setting → List Entry → List Entry → Measuring → Step → Type 0
-HasTurnedAlone w old new before answer = (next : Act) (missed : List Act) → left_of w before ≡ next ∷ missed → StepsAlone 0 old new next answer
+abbrev pub TakesStepAlone : Setting → List Entry → List Entry → Measuring → Step → Type 0
+TakesStepAlone w old new before answer = (next : Act) (missed : List Act) → left_of w before ≡ next ∷ missed → StepsAlone 0 old new next answer
 
 -- the stage once End is made
 abbrev pub stage_after_end : Challenge → Report → Progress

@@ -10,7 +10,7 @@ ghost use Rattle.challenge.specs.Challenges.{IsChallenge};
 ghost use Rattle.chronicle.specs.Worlds.{shape_of};
 ghost use Rattle.chronicle.specs.Ports.{IsMeasurer, KeepsPort};
 ghost use Rattle.measure.specs.Program.{MayStart, measuring_program};
-ghost use Rattle.measure.specs.Stepping.{HasAsked, HasTurned, HasTurnedAlone, IsStageAfterEnd, IsStanding, Stands, TakesIn, is_over, left_of, note_of, report_of};
+ghost use Rattle.measure.specs.Stepping.{HasAsked, TakesStep, TakesStepAlone, IsStageAfterEnd, IsStanding, Stands, TakesIn, is_over, left_of, note_of, report_of};
 
 use crate::hashing::{MEASURER, hash_block};
 use crate::laws;
@@ -213,9 +213,9 @@ impl Measuring {
         ensures stands { (c : Challenge) (old : List Entry)
             → Stands key.now (P.world port.old) c old (P.seen port.old) self.old
             → Stands key.now (P.world port.old) c old (P.seen port.new) self.new }
-        ensures turned { HasTurned (P.world port.old) (P.seen port.old) (P.seen port.new) self.old self.new result }
+        ensures turned { TakesStep (P.world port.old) (P.seen port.old) (P.seen port.new) self.old self.new result }
         ensures alone { P.alone
-            → HasTurnedAlone (P.world port.old) (P.seen port.old) (P.seen port.new) self.old result }
+            → TakesStepAlone (P.world port.old) (P.seen port.old) (P.seen port.new) self.old result }
     {
         measuring_stands();
         let shape = port.shape();

@@ -174,13 +174,15 @@ pub fn read_report(bytes: &[u8]) -> Option<Report>
 }
 
 /// A byte list is that of at most one report, a report has at most one, whose length its number of ranges says; a
-/// definition that computes says which report it is. A report that names its version as the second and has one range is none.
+/// definition that computes says which report it is, and of a report's bytes says that report. A report that names its
+/// version as the second and has one range is none.
 pub fn one_report()
     ensures value { (bytes : List ℕ) (a b : Report) → SpellsReport bytes a → SpellsReport bytes b → a ≡ b }
     ensures spelling { (a b : List ℕ) (r : Report) → SpellsReport a r → SpellsReport b r → a ≡ b }
     ensures size { (bytes : List ℕ) (r : Report) → SpellsReport bytes r
         → ((length r.shape.ranges ≡ 1) × (length bytes ≡ 96)) ⊎ ((2 ≤ length r.shape.ranges) × (length bytes ≡ 92 + 8 * length r.shape.ranges)) }
     ensures read { (bytes : List ℕ) → ((i : ℕ) → slice_index bytes i < 256) → IsReportReading bytes (report_in bytes) }
+    ensures again { (r : Report) → IsReport r → FitsReport r → report_in (report_bytes r) ≡ Some r }
     ensures one_range { (bytes : List ℕ) → ((i : ℕ) → slice_index bytes i < 256)
         → slice_index bytes 3 ≡ 0x32 → u32_at bytes 40 ≡ 1 → report_in bytes ≡ None }
 {

@@ -32,10 +32,10 @@ const SLEEPERS: usize = 2;
 const HOME: usize = 0;
 
 /// How often a thread looks at the held word before it sleeps.
-const LOOKS: u32 = 100;
+const LOOKS: u32 = 40;
 
 /// Between two looks it pauses once at first, then twice as often each time, and at the most two to this power times.
-const LONGEST: u32 = 6;
+const LONGEST: u32 = 10;
 
 /// There was no memory. The value comes back.
 #[derive(Drop)]
@@ -145,7 +145,7 @@ impl<T: Chronicled> TurnCell<T> {
         self.table.shared.compare_exchange::<Take>(seat, HELD, 0, 1) == 0
     }
 
-    /// The same, with some hundred looks at the word before it gives up.
+    /// The same, with so many looks at the word before it gives up.
     fn take_soon(&self, seat: &mut Seat<Option<Box<T>>, SeatView>) -> bool
         requires cell { seat.old.table_id ≡ self.now.id }
         requires outside { let t = token_at seat.old.table_id seat.old.me.0 in

@@ -73,7 +73,7 @@ fn note_often<R: Wait>(rt: &R, cell: &TurnCell<Diary>, pass: Pass) -> Pass
     requires { pass.cell ≡ cell.now }
     ensures { (result.cell ≡ pass.cell) × (result.low ≡ pass.low) × (result.high ≡ pass.high) }
 {
-    let pauses = if pass.low() == 0 { 20_000 } else { 0 };
+    let pauses = if pass.low() == 0 { 50_000 } else { 0 };
     let mut pass = pass;
     for _ in 0..TURNS {
         pass = note_once(rt, cell, pass, pauses);

@@ -1,6 +1,6 @@
 use Rattle.std.proofs.Common.{refl}
 use Rattle.report.specs.Reports.{report_in}
-use Rattle.report.proofs.Reading.{TestsTell, no_one_range, one_report, one_spelling, reading_of, report_size}
+use Rattle.report.proofs.Reading.{TestsTell, no_one_range, one_report, one_spelling, reading_of, report_again, report_size}
 use Rattle.report.proofs.reports.one_report.Goals as goal
 
 pub returns : goal.returns
@@ -11,5 +11,6 @@ returns c =
       spelling = one_spelling;
       size = report_size;
       read = λ bytes fits. reading_of laws bytes (report_in bytes) fits refl;
+      again = report_again laws;
       one_range = no_one_range laws;
     }
