@@ -1,11 +1,12 @@
 -- What reading gives where a text is too short, and where it has been cut.
-use Rattle.std.proofs.Common.{◌≡◌, ◌==◌, ℕ, zero, suc, ◌+◌, ◌-◌, ◌*◌, ◌^◌, ◌<◌, ◌≤◌, drop, get_or, lit<, Bool, true, false, cond, List, [], ◌∷◌, length, Option, Some, None, refl, sym, ap, ◌∙◌, arith}
+use Rattle.std.proofs.Common.{◌≡◌, ◌==◌, ℕ, zero, suc, ◌+◌, ◌-◌, ◌*◌, ◌%◌, ◌^◌, ◌<◌, ◌≤◌, drop, get_or, lit<, Bool, true, false, cond, List, [], ◌∷◌, length, Option, Some, None, refl, sym, ap, ◌∙◌, arith, inl, inr}
 use Rattle.std.specs.Prelude.{nat_lt}
+use Rattle.std.specs.Int.RustNames.{bit_or}
 use Rattle.std.specs.List.{join_with_byte}
 use Rattle.std.proofs.Math.Nat.{pow-le-pow_right}
-use Rattle.std.proofs.lemmas.Bool.{cond-true, cond-false, lt-ltb, le-ltb}
+use Rattle.std.proofs.lemmas.Bool.{cond-true, cond-false, lt-ltb, le-ltb, cases_lt}
 use Rattle.std.proofs.lemmas.List.{drop_more}
-use Rattle.std.proofs.lemmas.Nat.{pow-add}
+use Rattle.std.proofs.lemmas.Nat.{pow-add, or_lt, le_or_l, le_or_r}
 use Rattle.std.proofs.lemmas.List.Splits.{length-slice_split, join_with_byte-slice_split}
 use Rattle.sequencing.specs.Options.{◌>>=◌}
 use Rattle.text_readers.specs.Lines.{parts_at}
@@ -57,3 +58,31 @@ digits_fit i value digit few small low =
     let seven : i ≤ 7 = omega (arith, few) in
     let most : 16 ^ i ≤ 16 ^ 7 = pow-le-pow_right {n = 16} (lit< tt) seven in
     omega (arith, small, low, most)
+
+-- of so many bytes the marks tell whether all are digits, and if so, what number they say so far
+pub record HasSeen (count i seen value : ℕ) (text : List ℕ) : Type 0 where
+  pub said : seen < 16 → (value < 16 ^ i) × (digits_at (count - i) value (drop i text) ≡ digits_at count 0 text)
+  pub none : 16 ≤ seen → digits_at count 0 text ≡ None
+
+-- the marks of a digit more
+marks : (seen digit : ℕ) → 16 ≤ bit_or seen digit → (seen < 16) → 16 ≤ digit
+marks seen digit some low = elim (cases_lt digit 16) [
+  | inl small ↦ absurd (omega (arith, some, or_lt 4 seen digit low small))
+  | inr large ↦ large
+]
+
+pub seen_more : (count i seen value digit : ℕ) (text : List ℕ) → count ≤ 8 → i < count → i < length text → digit ≡ low_digit (get_or text i 0)
+    → HasSeen count i seen value text → HasSeen count (i + 1) (bit_or seen digit) ((value * 16 % 2 ^ 32 + digit) % 2 ^ 32) text
+seen_more count i seen value digit text few before inside is kept = record {
+  said = λ all.
+      let low : seen < 16 = omega (arith, all, le_or_l seen digit) in
+      let small : digit < 16 = omega (arith, all, le_or_r seen digit) in
+      let so = kept.said low in
+      let fit = digits_fit i value digit (omega (arith, few, before)) so.0 small in
+      let next : (value * 16 % 2 ^ 32 + digit) % 2 ^ 32 ≡ value * 16 + digit = omega (arith, fit) in
+      rw next (digits_small i value digit so.0 small, sym (digits_more count i value digit text before inside is small) ∙ so.1);
+  none = λ some. elim (cases_lt seen 16) [
+    | inl low ↦ sym (kept.said low).1 ∙ digits_stop count i value digit text before inside is (marks seen digit some low)
+    | inr high ↦ kept.none high
+  ];
+}

@@ -6,6 +6,7 @@ pub mod Unique
 pub mod OneTrace
 pub mod Fronts
 pub mod Again
+pub mod Table
 pub mod Takes
 pub mod Stands
 pub mod Windows

@@ -21,16 +21,38 @@ pub fn text_behind<'a>(word: &[u8], text: &'a [u8]) -> Option<&'a [u8]>
     Some(&text[word.len()..])
 }
 
+// The value of each byte as a lower-case hexadecimal digit; 16 of one that is none.
+static LOW_DIGITS: [u8; 256] = *b"\
+    \x10\x10\x10\x10\x10\x10\x10\x10\x10\x10\x10\x10\x10\x10\x10\x10\
+    \x10\x10\x10\x10\x10\x10\x10\x10\x10\x10\x10\x10\x10\x10\x10\x10\
+    \x10\x10\x10\x10\x10\x10\x10\x10\x10\x10\x10\x10\x10\x10\x10\x10\
+    \x00\x01\x02\x03\x04\x05\x06\x07\x08\x09\x10\x10\x10\x10\x10\x10\
+    \x10\x10\x10\x10\x10\x10\x10\x10\x10\x10\x10\x10\x10\x10\x10\x10\
+    \x10\x10\x10\x10\x10\x10\x10\x10\x10\x10\x10\x10\x10\x10\x10\x10\
+    \x10\x0a\x0b\x0c\x0d\x0e\x0f\x10\x10\x10\x10\x10\x10\x10\x10\x10\
+    \x10\x10\x10\x10\x10\x10\x10\x10\x10\x10\x10\x10\x10\x10\x10\x10\
+    \x10\x10\x10\x10\x10\x10\x10\x10\x10\x10\x10\x10\x10\x10\x10\x10\
+    \x10\x10\x10\x10\x10\x10\x10\x10\x10\x10\x10\x10\x10\x10\x10\x10\
+    \x10\x10\x10\x10\x10\x10\x10\x10\x10\x10\x10\x10\x10\x10\x10\x10\
+    \x10\x10\x10\x10\x10\x10\x10\x10\x10\x10\x10\x10\x10\x10\x10\x10\
+    \x10\x10\x10\x10\x10\x10\x10\x10\x10\x10\x10\x10\x10\x10\x10\x10\
+    \x10\x10\x10\x10\x10\x10\x10\x10\x10\x10\x10\x10\x10\x10\x10\x10\
+    \x10\x10\x10\x10\x10\x10\x10\x10\x10\x10\x10\x10\x10\x10\x10\x10\
+    \x10\x10\x10\x10\x10\x10\x10\x10\x10\x10\x10\x10\x10\x10\x10\x10";
+
+#[tactic(auto, using(crate::proofs::Table::low_in_table))]
+fn table_digit(c: u8) -> u8
+    ensures { result ≡ low_digit c }
+{
+    LOW_DIGITS[c as usize]
+}
+
 // The value of a lower-case hexadecimal digit; 16 of any other byte.
 fn low_digit(c: u8) -> u32
     ensures value { result ≡ low_digit c }
     ensures small { result ≤ 16 }
 {
-    match c {
-        b'0'..=b'9' => u32::from(c - b'0'),
-        b'a'..=b'f' => u32::from(c - b'a') + 10,
-        _ => 16,
-    }
+    u32::from(table_digit(c))
 }
 
 /// The number that so many lower-case hexadecimal digits at the front say, at most 8 of them, and the text behind them.
@@ -41,13 +63,16 @@ pub fn digits_at(count: usize, text: &[u8]) -> Option<(u32, &[u8])>
     if text.len() < count {
         return None;
     }
+    // No branch depends on a byte, so none is guessed wrong: a byte that is no digit leaves its 16 in `seen`.
     let mut value = 0u32;
+    let mut seen = 0u32;
     for c in &text[..count] {
         let digit = low_digit(*c);
-        if digit >= 16 {
-            return None;
-        }
-        value = value * 16 + digit;
+        seen |= digit;
+        value = value.wrapping_mul(16).wrapping_add(digit);
+    }
+    if seen >= 16 {
+        return None;
     }
     Some((value, &text[count..]))
 }

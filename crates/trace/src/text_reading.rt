@@ -20,6 +20,9 @@ use crate::reading::first_entry;
 use chronicle::{Chronicle, Entry, Geometry, Ranges, World};
 use std::alloc::Global;
 
+/// The bytes of the shortest line of an entry, `0 end` with its end.
+const SHORTEST_LINE: usize = 6;
+
 /// Why a text isn't read as a trace.
 #[derive(Clone, Copy, Debug, PartialEq, Eq)]
 pub enum TraceFault {
@@ -125,9 +128,9 @@ fn read_image(alloc: Global, bytes: usize, text: &[u8]) -> Result<(Vec<u8>, &[u8
     Ok((image, left))
 }
 
-// How many lines there are, at most as many as a trace has entries.
+// The text has no more entries than this. Room that none of them takes is never touched.
 fn most_entries(text: &[u8]) -> usize {
-    let lines = text.iter().filter(|c| **c == b'\n').count();
+    let lines = text.len() / SHORTEST_LINE;
     lines.min(MOST_ENTRIES as usize)
 }
 
