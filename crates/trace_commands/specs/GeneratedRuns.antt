@@ -1,9 +1,10 @@
 -- What `gen` prints of a run: the lines of a scheduled run, but that a report is told whether it is one on a pass of the
 -- recorded history, in place of a verdict on it.
-use Rattle.std.specs.Prelude.{ℕ, ◌+◌, Bool, true, false, if◌then◌else◌, List, [], ◌∷◌, ◌++◌, codes, length, map, Option, Some, None}
+use Rattle.std.specs.Prelude.{◌≡◌, ℕ, ◌+◌, ◌^◌, ◌<◌, Bool, true, false, if◌then◌else◌, List, [], ◌∷◌, ◌++◌, codes, length, map, Option, Some, None}
 use Rattle.std.specs.Fmt.{decimal}
 use Rattle.std.specs.List.{list_all}
 use Rattle.history.specs.Pass.{is_extended}
+use Rattle.challenge.specs.declared.Challenge.{Challenge}
 use Rattle.chronicle.specs.Worlds.{Recorded}
 use Rattle.report.specs.declared.Report.{Report}
 use Rattle.report.specs.declared.Note.{Note}
@@ -100,3 +101,10 @@ written_with_ends ends outcome = record {
 -- what is written of a run whose reports have this key
 unfoldable pub written_of_generated : List ℕ → Outcome → Written
 written_of_generated key outcome = written_with_ends (report_ends key outcome.chronicle outcome.passes) outcome
+
+-- ---- challenges whose reports are read again
+
+-- each number and each list of bytes of the challenge has the width of its field in a report
+pub record FitsChallenge (c : Challenge) : Type 0 where
+  pub counter : c.counter < 2 ^ 64
+  pub nonce : length c.nonce ≡ 16

@@ -13,12 +13,14 @@
 mod checks;
 mod ends;
 mod generating;
+mod laws;
 mod reading;
 mod report_lines;
 
 pub use checks::prepare_check;
 pub use ends::ReportEnd;
 pub use generating::prepare_gen;
+pub use laws::uncut_runs_are_confirmed;
 
 #[cfg(test)]
 mod tests;
