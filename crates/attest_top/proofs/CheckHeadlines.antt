@@ -1,5 +1,5 @@
 -- What the output of `check` and of `gen` is worth, from their plans.
-use Rattle.std.proofs.Common.{◌≡◌, ℕ, List, [], ◌∷◌, ◌++◌, length, false, Option, None, Some, Result, Ok, Err, refl, sym, ap, subst, ◌∙◌}
+use Rattle.std.proofs.Common.{◌≡◌, ◌≢◌, ℕ, List, [], ◌∷◌, length, Bool, true, false, if◌then◌else◌, Option, None, Some, Ok, refl, sym, ap, subst, ◌∙◌}
 use Rattle.std.specs.List.{list_all}
 use Rattle.att_base.specs.Files.{Contents}
 use Rattle.history.specs.declared.events.Entry.{Entry}
@@ -13,7 +13,8 @@ use Rattle.trace.specs.declared.confirm.Confirmed.{Confirmed}
 use Rattle.trace.specs.declared.confirm.Confirmed.TheVariants.{Yes}
 use Rattle.trace.specs.Confirm.{confirmed, confirmed_reading}
 use Rattle.trace.specs.Whole.{IsTrace}
-use Rattle.command_plans.specs.Steps.{Reason, CommandStep, exactly, Then}
+use Rattle.command_plans.specs.declared.output.Ending.TheVariants as endings
+use Rattle.command_plans.specs.Steps.{exactly, Then}
 use Rattle.command_plans.specs.Reading.{input_limit, ReadFile}
 use Rattle.command_plans.specs.Written.{Written}
 use Rattle.input_files.specs.InputFiles.{KeyIn}
@@ -25,10 +26,10 @@ use Rattle.device_commands.specs.RunWritten.{is_cut}
 use Rattle.device_commands.specs.Plans.{some_that}
 use Rattle.generated.specs.Generated.{generated_key, generated_schedule, generated_setup}
 use Rattle.trace_commands.specs.Checks.{trace_limit, IsTraceReading, is_trace, leaves, spent as no_trace, TraceOf, TraceIn, ReportIn, answers_of, is_yes, written_legal, written_unless, written_of_check, check_plan}
-use Rattle.trace_commands.specs.GeneratedRuns.{written_of_generated, ending_of_reports}
+use Rattle.trace_commands.specs.GeneratedRuns.{written_of_generated, ending_of_reports, is_confirmed_end, report_ends}
 use Rattle.trace_commands.specs.Plans.{gen_plan}
 use Rattle.attest_top.specs.declared.status.Status.{Status}
-use Rattle.attest_top.specs.declared.status.Status.TheVariants.{Good, Rejected}
+use Rattle.attest_top.specs.declared.status.Status.TheVariants.{Rejected}
 use Rattle.attest_top.specs.Moments.{Moment, with_appended}
 use Rattle.attest_top.specs.Causes.{status_of}
 use Rattle.attest_top.specs.Plans.{named_check_plan}
@@ -198,6 +199,18 @@ gen_uncut : (key : List ℕ) (outcome : Outcome) (status : Status) → status �
 unfolding written_of_generated ending_of_reports
 gen_uncut key outcome status is uncut = ended_uncut (is_cut outcome) _ outcome.chronicle.world.cap status is uncut
 
+-- a run ends so only where it wasn't cut and a report isn't confirmed
+never_refused : (cut confirmed : Bool) (cap : ℕ) (status : Status) → status ≡ status_of (if cut then endings.Full cap else (if confirmed then endings.Accepted else endings.Refused))
+    → (IsUncut status → confirmed ≡ true) → status ≢ Rejected
+never_refused true confirmed cap status is known = λ refused. let e = sym is ∙ refused in cc
+never_refused false true cap status is known = λ refused. let e = sym is ∙ refused in cc
+never_refused false false cap status is known = λ refused. let e = known (rw refused tt) in cc
+
+gen_unrefused : (key : List ℕ) (outcome : Outcome) (status : Status) → status ≡ status_of (written_of_generated key outcome).ending
+    → (IsUncut status → list_all is_confirmed_end (report_ends key outcome.chronicle outcome.passes) ≡ true) → status ≢ Rejected
+unfolding written_of_generated ending_of_reports
+gen_unrefused key outcome status is known = never_refused (is_cut outcome) _ outcome.chronicle.world.cap status is known
+
 -- the history of a scheduled run is legal
 legal_run : (s : Setup) (outcome : Outcome) (history : List Entry) → outcome.chronicle.world ≡ s.world → outcome.chronicle.entries ≡ history → IsLegal s.world history
     → IsLegal outcome.chronicle.world outcome.chronicle.entries
@@ -211,6 +224,8 @@ gen_tells l seed asked w status before after setting plan wrote =
     let valid : IsSetting g.outcome.chronicle.world = subst (λ (v : Setting). IsSetting v) (sym g.ran.world) setting in
     let sound : IsLegal g.outcome.chronicle.world g.outcome.chronicle.entries = legal_run s g.outcome g.ran.state.history g.ran.world g.ran.entries g.ran.run.so_far.legal in
     let ends : status ≡ status_of (written_of_generated generated_key g.outcome).ending = wrote.ends ∙ ap (λ (v : Written). status_of v.ending) g.is in
+    let confirms : IsUncut status → list_all is_confirmed_end (report_ends generated_key g.outcome.chronicle g.outcome.passes) ≡ true =
+    λ uncut. l.generated seed setting g.outcome g.ran (gen_uncut generated_key g.outcome status ends uncut) in
     record {
       outcome = g.outcome;
       ran = g.ran;
@@ -219,6 +234,8 @@ gen_tells l seed asked w status before after setting plan wrote =
       ends = ends;
       grown = wrote.out ∙ ap (λ (v : Written). with_appended v.out before.out) g.is;
       whole = λ uncut. l.scheduled s (generated_schedule seed) g.outcome g.ran (gen_uncut generated_key g.outcome status ends uncut);
+      confirmed = confirms;
+      unrefused = gen_unrefused generated_key g.outcome status ends confirms;
     }
 
 no_files_written : (key : List ℕ) (outcome : Outcome) → (written_of_generated key outcome).files ≡ []

@@ -1,7 +1,8 @@
 -- What the output of a device's run is worth, from its plan.
-use Rattle.std.proofs.Common.{◌≡◌, ℕ, List, length, All, Bool, true, false, if◌then◌else◌, Option, None, Some, Result, Ok, refl, sym, ap, subst, ◌∙◌}
+use Rattle.std.proofs.Common.{◌≡◌, ℕ, List, length, All, Bool, true, false, if◌then◌else◌, Option, None, Some, Ok, refl, sym, ap, subst, ◌∙◌}
 use Rattle.att_base.specs.Files.{Contents, NamedBytes}
 use Rattle.std.specs.Prelude.{◌↔◌}
+use Rattle.std.specs.List.{list_all}
 use Rattle.history.specs.declared.events.Entry.{Entry}
 use Rattle.history.specs.Broken.{broken}
 use Rattle.history.specs.Layout.{IsSetting, Setting}
@@ -11,7 +12,7 @@ use Rattle.report.specs.Reports.{report_in}
 use Rattle.trace.specs.declared.confirm.Confirmed.TheVariants.{Yes}
 use Rattle.trace.specs.Confirm.{IsConfirmed, IsOnPass, confirmed}
 use Rattle.command_plans.specs.declared.output.Ending.TheVariants as endings
-use Rattle.command_plans.specs.Steps.{Reason, exactly, Then}
+use Rattle.command_plans.specs.Steps.{exactly}
 use Rattle.command_plans.specs.Written.{Written}
 use Rattle.image_set.specs.Match.{Known, no_images}
 use Rattle.input_files.specs.InputFiles.{KeyIn, ReadImages}
@@ -30,8 +31,10 @@ use Rattle.device_inputs.specs.Inputs.{DeviceIn, ScheduleIn, PlacedIn}
 use Rattle.device_inputs.specs.Setups.{device_shape, AdmissionsIn, NamedIn, SetupIn, ScheduledIn}
 use Rattle.device_commands.specs.declared.ends.ChallengeEnd.{ChallengeEnd}
 use Rattle.device_commands.specs.ChallengeEnds.{challenge_ends}
-use Rattle.device_commands.specs.RunWritten.{names_of, run_files, is_cut, is_accepted, ending_of_run, written_of, IsFinishedRun}
+use Rattle.device_commands.specs.RunWritten.{names_of, run_files, is_cut, ending_of_run, written_of, IsFinishedRun}
 use Rattle.device_commands.specs.Plans.{run_setup, judge_of, MayCome, found as come, spent as unmet, some_that, RunOfFiles, sched_plan, IsThreadedOutcome, ThreadedRunOfFiles, run_plan}
+use Rattle.generated.specs.Generated.{generated_key, generated_schedule, generated_setup}
+use Rattle.trace_commands.specs.GeneratedRuns.{is_confirmed_end, report_ends}
 use Rattle.attest_top.specs.declared.status.Status.{Status}
 use Rattle.attest_top.specs.Moments.{Moment, with_appended}
 use Rattle.attest_top.specs.Plans.{run_written}
@@ -41,11 +44,12 @@ use Rattle.attest_top.specs.Headline.{HasBytes, IsUncut, OutcomeTells, SchedTell
 use Rattle.attest_top.proofs.Becomes.{WroteAll}
 use Rattle.attest_top.proofs.Inverse.{through, known_gave}
 use Rattle.attest_top.proofs.Told.{files_told}
-use Rattle.attest_top.proofs.Headlines.{DeviceRead, device_read}
+use Rattle.attest_top.proofs.Headlines.{device_read}
 use Rattle.attest_top.proofs.OneResult.{setup_with, WithAnswers, WithImage, WithItsKey, scheduled_with, WithRuns, WithPlan}
 
 -- What the laws say of what is written: the files of a run have different names, and a run that wasn't cut is whole. A
--- history is legal exactly where no entry of it breaks a rule, and what Yes says of a report.
+-- history is legal exactly where no entry of it breaks a rule, and what Yes says of a report. The reports of a generated run
+-- that wasn't cut are confirmed.
 pub record LawsOfTelling : Type 0 where
   pub names : (text : List ℕ) (plan : DevicePlan) → device_file text ≡ Ok plan → (ends : List ChallengeEnd) (outcome : Outcome) → all_different (names_of (run_files plan ends outcome)) ≡ true
   pub threaded : (s : Setup) (outcome : Outcome) → IsThreadedOutcome s outcome → is_cut outcome ≡ false → IsFinishedRun s outcome
@@ -53,6 +57,8 @@ pub record LawsOfTelling : Type 0 where
   pub unbroken : (w : Setting) (history : List Entry) → (broken w history ≡ None) ↔ IsLegal w history
   pub yes : (key : List ℕ) (w : Setting) (history : List Entry) (bytes : List ℕ) (r : Report) → report_in bytes ≡ Some r → (confirmed key w history bytes ≡ Yes) ↔ IsOnPass key w history r
   pub instants : (key : List ℕ) (w : Setting) (history : List Entry) (r : Report) → IsSetting w → IsLegal w history → IsOnPass key w history r → IsConfirmed key w history r
+  pub generated : (seed : ℕ) → IsSetting (generated_setup seed).world → (outcome : Outcome) → IsScheduledOutcome (generated_setup seed) (generated_schedule seed) outcome → is_cut outcome ≡ false
+      → list_all is_confirmed_end (report_ends generated_key outcome.chronicle outcome.passes) ≡ true
 
 -- ---- the plan of what was read is that of the device file
 

@@ -1,5 +1,5 @@
 -- What has been written is worth this: a line for each command, over what files and streams show before and after the call.
-use Rattle.std.specs.Prelude.{◌≡◌, ℕ, List, [], ◌∷◌, ◌++◌, All, length, true, false, ◌&&◌, if◌then◌else◌, Option, Some, None, Ok, IsOk}
+use Rattle.std.specs.Prelude.{◌≡◌, ◌≢◌, ℕ, List, [], ◌∷◌, ◌++◌, All, length, true, false, ◌&&◌, if◌then◌else◌, Option, Some, None, Ok, IsOk}
 use Rattle.att_base.specs.Files.{Contents}
 use Rattle.hmac256.specs.Hmac.{hmac}
 use Rattle.challenge.specs.declared.Challenge.{Challenge}
@@ -38,7 +38,7 @@ use Rattle.generated.specs.Generated.{generated_key, generated_schedule, generat
 use Rattle.device_commands.specs.RunWritten.{IsFinishedRun}
 use Rattle.device_commands.specs.Plans.{attested_image, run_setup, IsThreadedOutcome}
 use Rattle.trace_commands.specs.Checks.{answer_lines, answers_of, broken_line, is_yes, legal_line}
-use Rattle.trace_commands.specs.GeneratedRuns.{written_of_generated}
+use Rattle.trace_commands.specs.GeneratedRuns.{is_confirmed_end, report_ends, written_of_generated}
 use Rattle.command_plans.specs.Written.{Written}
 use Rattle.script.specs.Programs.{Program}
 use Rattle.script.specs.Grammar.{program_of}
@@ -219,8 +219,8 @@ pub record CheckTells (trace key : List ℕ) (names : List (List ℕ)) (status :
 
 -- The device that is drawn from the number has run under the schedule that is. It has one legal history, which is that of the
 -- scheduled turns; standard output has grown by the lines of the run, with whether each report is confirmed by the history,
--- which is what Yes tells. Unless the history has filled, every application ran to its end, and every challenge has its
--- report and, in an extended discipline, its note.
+-- which is what Yes tells. Unless the history has filled, every application ran to its end, every challenge has its report
+-- and, in an extended discipline, its note, and every report is confirmed. So no run ends with the status of a refused report.
 pub record GenTells (seed : ℕ) (status : Status) (before after : Moment) : Type 0 where
   pub outcome : Outcome
   pub ran : IsScheduledOutcome (generated_setup seed) (generated_schedule seed) outcome
@@ -229,6 +229,8 @@ pub record GenTells (seed : ℕ) (status : Status) (before after : Moment) : Typ
   pub ends : status ≡ status_of (written_of_generated generated_key outcome).ending
   pub grown : after.out ≡ with_appended (written_of_generated generated_key outcome).out before.out
   pub whole : IsUncut status → IsFinishedRun (generated_setup seed) outcome
+  pub confirmed : IsUncut status → list_all is_confirmed_end (report_ends generated_key outcome.chronicle outcome.passes) ≡ true
+  pub unrefused : status ≢ Rejected
 
 -- all was written
 abbrev pub AllWritten : Status → Type 0

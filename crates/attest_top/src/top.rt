@@ -19,6 +19,7 @@ use std::alloc::Global;
 use std::sync::Wait;
 use std::thread::Threads;
 use trace::confirmed_is_exact;
+use trace_commands::uncut_runs_are_confirmed;
 
 /// Carries out a command line whose command runs on one thread, and gives the status that the program ends with. Words of
 /// `run DEVICE` are in no form here.
@@ -43,6 +44,7 @@ pub fn attest_still<F: Files, S: Source, O: Sink, E: Sink>(
     uncut_runs_are_finished();
     broken_is_exact();
     confirmed_is_exact();
+    uncut_runs_are_confirmed();
     let Some(command) = parse_still(words) else {
         return say_usage(err);
     };
@@ -75,6 +77,7 @@ pub fn attest_run<R: Threads + Wait + Sync, F: Files, S: Source, O: Sink, E: Sin
     uncut_runs_are_finished();
     broken_is_exact();
     confirmed_is_exact();
+    uncut_runs_are_confirmed();
     let Some(device) = device_to_run(words) else {
         return say_usage(err);
     };

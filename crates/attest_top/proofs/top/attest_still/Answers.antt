@@ -34,6 +34,6 @@ returns g c =
     rw some (promise_kept (record {
       plans = c.one_plan.ensures.plans;
       setups = c.one_plan.ensures.setups;
-      telling = record { names = c.files_have_different_names.ensures; threaded = c.uncut_runs_are_finished.ensures.threaded; scheduled = c.uncut_runs_are_finished.ensures.scheduled; unbroken = c.broken_is_exact.ensures.none; yes = c.confirmed_is_exact.ensures.yes; instants = c.confirmed_is_exact.ensures.instants };
+      telling = record { names = c.files_have_different_names.ensures; threaded = c.uncut_runs_are_finished.ensures.threaded; scheduled = c.uncut_runs_are_finished.ensures.scheduled; unbroken = c.broken_is_exact.ensures.none; yes = c.confirmed_is_exact.ensures.yes; instants = c.confirmed_is_exact.ensures.instants; generated = c.uncut_runs_are_confirmed.ensures.generated };
     }) form c.prepare_still-prepared.result c.finish.result before after mid c.prepare_still-prepared.ensures
     (c.finish.ensures.comes before.input after.input) c.finish.ensures.asked c.finish.ensures.none)
