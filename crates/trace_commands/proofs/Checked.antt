@@ -1,5 +1,5 @@
 -- What follows in a check behind each of its reads.
-use Rattle.std.proofs.Common.{◌≡◌, ℕ, List, Option, Ok, refl}
+use Rattle.std.proofs.Common.{ℕ, List, Option, Ok, refl}
 use Rattle.att_base.specs.Files.{Contents}
 use Rattle.chronicle.specs.Worlds.{Recorded}
 use Rattle.command_plans.specs.Reading.{spent}

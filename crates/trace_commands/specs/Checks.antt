@@ -9,7 +9,6 @@ use Rattle.trace.specs.declared.confirm.Confirmed.{Confirmed}
 use Rattle.trace.specs.declared.confirm.Confirmed.TheVariants as told
 use Rattle.trace.specs.Confirm.{confirmed}
 use Rattle.trace.specs.Whole.{IsTrace, LeavesAt}
-use Rattle.command_plans.specs.declared.output.Ending.{Ending}
 use Rattle.command_plans.specs.declared.output.Ending.TheVariants.{Accepted, Refused}
 use Rattle.command_plans.specs.Lines.{bad_line}
 use Rattle.command_plans.specs.Reading.{input_limit, ReadFile}

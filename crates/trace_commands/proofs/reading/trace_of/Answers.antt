@@ -1,4 +1,4 @@
-use Rattle.std.proofs.Common.{◌≡◌, ℕ, List, Result, Err, refl, ap}
+use Rattle.std.proofs.Common.{ℕ, List, Result, Err, refl, ap}
 use Rattle.chronicle.specs.Worlds.{Recorded}
 use Rattle.command_plans.specs.Steps.{Reason, bad}
 use Rattle.trace.specs.Whole.{LeavesAt}
