@@ -6,9 +6,10 @@ ghost use Rattle.att_base.specs.Streams.{put_after};
 
 use super::*;
 use std::alloc::{AllocError, Global};
+use std::io::{ErrorKind, Read, Write};
 use std::process::Abort;
 use std::test::Fail;
-use std::{env, fs};
+use std::{env, fs, io};
 
 // Reads all and writes all, as a layer above does. Where no read failed and memory was found, `TooLong` comes
 // exactly where more than `limit` bytes were left: `copied` and `too_long` say so together.
@@ -124,6 +125,54 @@ fn streams_of_std_are_streams(rt: HostRuntime) -> Result<(), Fail> {
     assert_eq!(rt; put_all(&mut sink, &TEXT), Err(Failed));
     assert_eq!(rt; sink.write(b""), Ok(0));
     Ok(())
+}
+
+/// A call is interrupted, one fails, one moves nothing, and each later one moves a byte.
+#[derive(Drop)]
+struct Faulty {
+    calls: u32,
+}
+
+impl Faulty {
+    fn call(&mut self) -> io::Result<usize> {
+        self.calls = self.calls.saturating_add(1);
+        match self.calls {
+            1 => Err(ErrorKind::Interrupted.into()),
+            2 => Err(ErrorKind::Other.into()),
+            3 => Ok(0),
+            _ => Ok(1),
+        }
+    }
+}
+
+impl Read for Faulty {
+    fn read(&mut self, into: &mut [u8]) -> io::Result<usize> {
+        Ok(self.call()?.min(into.len()))
+    }
+}
+
+impl Write for Faulty {
+    fn write(&mut self, piece: &[u8]) -> io::Result<usize> {
+        Ok(self.call()?.min(piece.len()))
+    }
+
+    fn flush(&mut self) -> io::Result<()> {
+        Ok(())
+    }
+}
+
+#[test]
+fn no_call_is_tried_again(rt: HostRuntime) {
+    let mut source = StdSource::new(Faulty { calls: 0 });
+    let mut into = [0u8; 1];
+    assert_eq!(rt; source.read(&mut into), Err(Failed));
+    assert_eq!(rt; source.read(&mut into), Err(Failed));
+    assert_eq!(rt; source.read(&mut into), Ok(0));
+    let mut sink = StdSink::new(Faulty { calls: 0 });
+    assert_eq!(rt; sink.write(b"!"), Err(Failed));
+    assert_eq!(rt; sink.write(b"!"), Err(Failed));
+    assert_eq!(rt; sink.write(b"!"), Err(Failed));
+    assert_eq!(rt; sink.write(b"!"), Ok(1));
 }
 
 #[test]
@@ -298,4 +347,41 @@ fn real_files_are_read_and_written(rt: HostRuntime) -> Result<(), Fail> {
     assert_eq!(rt; files.append(alloc, nowhere, b"!"), Err(FileFault::Failed));
     fs::remove_dir_all(&rt, folder)?;
     Ok(())
+}
+
+fn zeros(alloc: Global, count: usize) -> Result<Vec<u8>, AllocError> {
+    vec![in alloc; 0; count]
+}
+
+#[test]
+fn real_files_at_their_limits(rt: HostRuntime) -> Result<(), Fail> {
+    let alloc = rt.alloc();
+    let folder = new_folder(&rt)?;
+    let path = format!(in alloc; "{folder}/file")?;
+    let name = path.as_str();
+    assert!(rt; !name.is_empty() && name.len() <= 255);
+    let mut files = StdFiles::new(&rt);
+    // A file that wasn't there, of one byte more than a mebibyte.
+    let bytes = zeros(alloc, 1_048_577)?;
+    files.append(alloc, name, &bytes)?;
+    assert_eq!(rt; files.read(alloc, name, u64::MAX)?.len(), bytes.len());
+    // A device that has no room.
+    assert_eq!(rt;
+        files.append(alloc, "/dev/full", b"!"),
+        Err(FileFault::Failed)
+    );
+    fs::remove_dir_all(&rt, folder.as_str())?;
+    Ok(())
+}
+
+#[test]
+fn kinds_of_entries_have_their_numbers(rt: HostRuntime) {
+    assert_eq!(rt;
+        [MADE_FETCH, MADE_LOAD, MADE_STORE, MADE_START],
+        [1, 2, 3, 4]
+    );
+    assert_eq!(rt;
+        [MADE_COPY, MADE_END, MADE_TICK, MADE_RELEASE],
+        [5, 6, 7, 8]
+    );
 }
