@@ -331,6 +331,33 @@ fn a_full_history_ends_the_program_early(rt: HostRuntime) -> Result<(), Fail> {
 }
 
 #[test]
+fn a_gate_is_told_of_no_refused_entry(rt: HostRuntime) -> Result<(), Fail> {
+    let ranges = first_blocks(1)?;
+    let asked = challenge(Discipline::AllExt, 1, 1, 11);
+    let whole: [(u32, u64); 7] = [(7, 1), (4, 2), (5, 3), (0, 0), (6, 4), (7, 5), (8, 6)];
+    for (cap, count) in [(1, 1), (2, 2), (3, 4), (4, 5), (5, 6), (6, 7)] {
+        let told = Recorder {
+            spots: RefCell::new(Vec::new(rt.alloc())),
+        };
+        let told_by_turns = Recorder {
+            spots: RefCell::new(Vec::new(rt.alloc())),
+        };
+        let mut one = core_of(&rt, ranges, cap)?;
+        let _ = measure_alone(&mut one, &asked, &told);
+        // The address lies outside memory, so no store comes between.
+        let mut other = core_of(&rt, ranges, cap)?;
+        let _ = measure_by_turns(&mut other, 0, &asked, &told_by_turns);
+        let spots = told.spots.into_inner();
+        assert_eq!(rt; Some(spots.as_slice()), whole.get(..count), "of {cap}");
+        assert_eq!(rt;
+            told_by_turns.spots.into_inner().as_slice(),
+            spots.as_slice()
+        );
+    }
+    Ok(())
+}
+
+#[test]
 fn stores_between_the_steps_change_no_instant(rt: HostRuntime) -> Result<(), Fail> {
     let ranges = first_blocks(4)?;
 
