@@ -230,7 +230,7 @@ impl<'a> Index<'a> {
     }
 
     /// Whether these are the bytes of a report on a pass of the history, under this key: the first of five cases. The
-    /// buffer is as long as memory, and has memory at a place afterwards, or what it had.
+    /// buffer is as long as memory, and is room to work in: what it had is lost.
     #[tactic(auto, unfolding(crate::specs::Confirm::confirmed))]
     pub fn confirm(&self, key: &[u8], report: &[u8], buffer: &mut [u8]) -> Confirmed
         requires room { length buffer.old ≡ byte_count self.now.world.layout }
