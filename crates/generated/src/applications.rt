@@ -9,15 +9,15 @@ use rv_decode::{BranchOp, ImmOp, Instr, LoadOp, StoreOp, encode};
 use std::alloc::{AllocError, Global};
 
 // The registers that it takes.
-const T0: u32 = 5;
+const REG_T0: u32 = 5;
 
-const T1: u32 = 6;
+const REG_T1: u32 = 6;
 
-const T2: u32 = 7;
+const REG_T2: u32 = 7;
 
-const A0: u32 = 10;
+const REG_A0: u32 = 10;
 
-const A7: u32 = 17;
+const REG_A7: u32 = 17;
 
 /// How many bytes a block has.
 const BLOCK: usize = 256;
@@ -58,33 +58,33 @@ fn program(address: u32, count: u32) -> [Instr; 11]
 {
     [
         Instr::Lui {
-            rd: T0,
+            rd: REG_T0,
             imm: lui_field(address),
         },
-        addi(T0, T0, addi_rest(address)),
-        addi(T1, 0, count as i32),
+        addi(REG_T0, REG_T0, addi_rest(address)),
+        addi(REG_T1, 0, count as i32),
         Instr::Load {
             op: LoadOp::Lw,
-            rd: T2,
-            rs1: T0,
+            rd: REG_T2,
+            rs1: REG_T0,
             imm: 0,
         },
-        addi(T2, T2, 1),
+        addi(REG_T2, REG_T2, 1),
         Instr::Store {
             op: StoreOp::Sw,
-            rs1: T0,
-            rs2: T2,
+            rs1: REG_T0,
+            rs2: REG_T2,
             imm: 0,
         },
-        addi(T1, T1, -1),
+        addi(REG_T1, REG_T1, -1),
         Instr::Branch {
             op: BranchOp::Bne,
-            rs1: T1,
+            rs1: REG_T1,
             rs2: 0,
             imm: -16,
         },
-        addi(A7, 0, 93),
-        addi(A0, T1, 0),
+        addi(REG_A7, 0, 93),
+        addi(REG_A0, REG_T1, 0),
         Instr::Ecall,
     ]
 }
