@@ -1,3 +1,4 @@
 pub mod Tags
 pub mod Reports
 pub mod Notes
+pub mod Shapes

@@ -20,6 +20,7 @@ mod bytes;
 mod heads;
 mod notes;
 mod reports;
+mod shapes;
 mod tags;
 #[cfg(test)]
 mod tests;
@@ -30,6 +31,7 @@ pub use chronicle::Shape;
 pub use heads::{head, head_of, note_head, tail};
 pub use notes::{NOTE_BYTES, one_note, read_note, write_note};
 pub use reports::{one_report, read_report, write_report};
+pub use shapes::same_shape;
 pub use tags::{note_on, note_tag, report_tag};
 
 /// What a measurement answers.

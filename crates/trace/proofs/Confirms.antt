@@ -17,42 +17,43 @@ use Rattle.chronicle.specs.declared.worlds.Shape.{Shape}
 use Rattle.chronicle.specs.Worlds.{shape_of}
 use Rattle.report.specs.declared.Report.{Report}
 use Rattle.report.specs.Reports.{SpellsReport, asked_of, report_in}
+use Rattle.report.specs.Shapes.{same_ranges, same_shape}
 use Rattle.report.specs.Tags.{report_tag}
 use Rattle.trace.specs.declared.confirm.Confirmed.TheVariants.{WrongShape, NoPass, WrongTag, Yes}
-use Rattle.trace.specs.Confirm.{IsConfirmed, IsOnPass, Tells, are_same_ranges, confirmed, confirmed_reading, confirmed_report, has_shape, names_pass, tag_at, told_place}
+use Rattle.trace.specs.Confirm.{IsConfirmed, IsOnPass, Tells, confirmed, confirmed_reading, confirmed_report, names_pass, tag_at, told_place}
 use Rattle.trace.proofs.Openings.{ends_named, named_ends}
 
-same_ranges : (a b : List Range) → are_same_ranges a b ≡ true → a ≡ b
-same_ranges [] [] h = refl
-same_ranges [] (s ∷ rest) h = absurd cc
-same_ranges (r ∷ more) [] h = absurd cc
-same_ranges (r ∷ more) (s ∷ rest) h =
-    let both = and_parts ((r.first == s.first) && (r.attested == s.attested)) (are_same_ranges more rest) h in
+ranges_are : (a b : List Range) → same_ranges a b ≡ true → a ≡ b
+ranges_are [] [] h = refl
+ranges_are [] (s ∷ rest) h = absurd cc
+ranges_are (r ∷ more) [] h = absurd cc
+ranges_are (r ∷ more) (s ∷ rest) h =
+    let both = and_parts ((r.first == s.first) && (r.attested == s.attested)) (same_ranges more rest) h in
     let here = and_parts (r.first == s.first) (r.attested == s.attested) both.0 in
     let head : r ≡ s = ap₂ (λ (f a : ℕ). record { first = f; attested = a }) (eqb-true r.first s.first here.0) (eqb-true r.attested s.attested here.1) in
-    ap₂ (λ (x : Range) (xs : List Range). x ∷ xs) head (same_ranges more rest both.1)
+    ap₂ (λ (x : Range) (xs : List Range). x ∷ xs) head (ranges_are more rest both.1)
 
-are_same : (a : List Range) → are_same_ranges a a ≡ true
+are_same : (a : List Range) → same_ranges a a ≡ true
 are_same [] = refl
 are_same (r ∷ more) =
-    and_from ((r.first == r.first) && (r.attested == r.attested)) (are_same_ranges more more) (and_from (r.first == r.first) (r.attested == r.attested) (eq-eqb r.first r.first refl) (eq-eqb r.attested r.attested refl)) (are_same more)
+    and_from ((r.first == r.first) && (r.attested == r.attested)) (same_ranges more more) (and_from (r.first == r.first) (r.attested == r.attested) (eq-eqb r.first r.first refl) (eq-eqb r.attested r.attested refl)) (are_same more)
 
 -- the test of a shape tells that it is the report's
-pub shape_is : (shape : Shape) (r : Report) → has_shape shape r ≡ true → r.shape ≡ shape
+pub shape_is : (shape : Shape) (r : Report) → same_shape r.shape shape ≡ true → r.shape ≡ shape
 shape_is shape r h =
-    let both = and_parts ((r.shape.base == shape.base) && (r.shape.size == shape.size)) (are_same_ranges r.shape.ranges shape.ranges) h in
+    let both = and_parts ((r.shape.base == shape.base) && (r.shape.size == shape.size)) (same_ranges r.shape.ranges shape.ranges) h in
     let here = and_parts (r.shape.base == shape.base) (r.shape.size == shape.size) both.0 in
     let base = eqb-true r.shape.base shape.base here.0 in
     let size = eqb-true r.shape.size shape.size here.1 in
-    let ranges = same_ranges r.shape.ranges shape.ranges both.1 in
+    let ranges = ranges_are r.shape.ranges shape.ranges both.1 in
     ap (λ (b : ℕ). record { base = b; size = r.shape.size; ranges = r.shape.ranges }) base
     ∙ ap (λ (s : ℕ). record { base = shape.base; size = s; ranges = r.shape.ranges }) size
     ∙ ap (λ (l : List Range). record { base = shape.base; size = shape.size; ranges = l }) ranges
 
-pub shape_fits : (shape : Shape) (r : Report) → r.shape ≡ shape → has_shape shape r ≡ true
+pub shape_fits : (shape : Shape) (r : Report) → r.shape ≡ shape → same_shape r.shape shape ≡ true
 shape_fits shape r h =
-    let own : has_shape r.shape r ≡ true = and_from ((r.shape.base == r.shape.base) && (r.shape.size == r.shape.size)) (are_same_ranges r.shape.ranges r.shape.ranges) (and_from (r.shape.base == r.shape.base) (r.shape.size == r.shape.size) (eq-eqb r.shape.base r.shape.base refl) (eq-eqb r.shape.size r.shape.size refl)) (are_same r.shape.ranges) in
-    subst (λ (s : Shape). has_shape s r ≡ true) h own
+    let own : same_shape r.shape r.shape ≡ true = and_from ((r.shape.base == r.shape.base) && (r.shape.size == r.shape.size)) (same_ranges r.shape.ranges r.shape.ranges) (and_from (r.shape.base == r.shape.base) (r.shape.size == r.shape.size) (eq-eqb r.shape.base r.shape.base refl) (eq-eqb r.shape.size r.shape.size refl)) (are_same r.shape.ranges) in
+    subst (λ (s : Shape). same_shape r.shape s ≡ true) h own
 
 -- the last of four cases is that of three tests that hold
 yes_tests : (shape pass tag : Bool) → (if not shape then WrongShape else (if not pass then NoPass else (if not tag then WrongTag else Yes))) ≡ Yes → (shape ≡ true) × (pass ≡ true) × (tag ≡ true)
@@ -81,7 +82,7 @@ pub yes_on_pass : (key : List ℕ) (w : Setting) (history : List Entry) (r : Rep
 unfolding confirmed_report
 yes_on_pass key w history r answer =
     let told : List ℕ = tag_at key w history r (told_place r) in
-    let tests = yes_tests (has_shape (shape_of w) r) (names_pass history r) (bytes_eq told r.tag) answer in
+    let tests = yes_tests (same_shape r.shape (shape_of w)) (names_pass history r) (bytes_eq told r.tag) answer in
     record { shape = shape_is (shape_of w) r tests.0; ends = named_ends r history tests.1; tag = sym ((bytes_eq-Decides told r.tag).0 tests.2) }
 
 -- and one that is on a pass is told Yes
@@ -89,7 +90,7 @@ pub on_pass_yes : (key : List ℕ) (w : Setting) (history : List Entry) (r : Rep
 unfolding confirmed_report
 on_pass_yes key w history r on =
     let told : List ℕ = tag_at key w history r (told_place r) in
-    yes_passes (has_shape (shape_of w) r) (names_pass history r) (bytes_eq told r.tag) (shape_fits (shape_of w) r on.shape) (ends_named r history on.ends) ((bytes_eq-Decides told r.tag).1 (sym on.tag))
+    yes_passes (same_shape r.shape (shape_of w)) (names_pass history r) (bytes_eq told r.tag) (shape_fits (shape_of w) r on.shape) (ends_named r history on.ends) ((bytes_eq-Decides told r.tag).1 (sym on.tag))
 
 -- in a legal history the tag is that of each instant
 pub on_pass_confirmed : (key : List ℕ) (w : Setting) (history : List Entry) (r : Report) → CopiedIsMemory → IsSetting w → IsLegal w history → IsOnPass key w history r → IsConfirmed key w history r

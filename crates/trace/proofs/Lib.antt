@@ -14,11 +14,11 @@ pub mod Stored
 pub mod Copies
 pub mod Openings
 pub mod Hashed
-pub mod SameRanges
 pub mod Confirms
 pub mod HeadTakes
 pub mod Begun
 pub mod Images
+pub mod LineDigits
 pub mod Entries
 pub mod ImageTakes
 pub mod ReadAgain

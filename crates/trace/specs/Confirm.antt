@@ -1,33 +1,22 @@
 -- Whether a report is one on a pass of a history, and what it is worth that it is.
-use Rattle.std.specs.Prelude.{◌≡◌, ℕ, Bool, true, false, not, ◌&&◌, ◌==◌, nat_le, if◌then◌else◌, IsTrue, List, [], ◌∷◌, length, bytes_eq, Option, Some, None, option_map}
+use Rattle.std.specs.Prelude.{◌≡◌, ℕ, Bool, false, not, ◌&&◌, ◌==◌, nat_le, if◌then◌else◌, IsTrue, List, length, bytes_eq, Option, Some, None, option_map}
 use Rattle.history.specs.declared.events.Act.{Act}
 use Rattle.history.specs.declared.events.Act.TheVariants.{Start}
 use Rattle.history.specs.declared.events.Entry.{Entry}
-use Rattle.history.specs.declared.ranges.Range.{Range}
 use Rattle.history.specs.Names.{code_of}
 use Rattle.history.specs.Layout.{Setting}
 use Rattle.history.specs.Memory.{attested_bytes, back, memory_at}
 use Rattle.history.specs.Pass.{Pass, is_end, is_extended, pass_after, start_of}
 use Rattle.history.specs.Instants.{EndsAt, IsInstant, ReleasesAt, is_newest}
 use Rattle.history.specs.Sliding.{locks_at_start}
-use Rattle.chronicle.specs.declared.worlds.Shape.{Shape}
 use Rattle.chronicle.specs.Worlds.{shape_of}
 use Rattle.report.specs.declared.Report.{Report}
 use Rattle.report.specs.Reports.{SpellsReport, asked_of, report_in}
+use Rattle.report.specs.Shapes.{same_shape}
 use Rattle.report.specs.Tags.{report_tag}
 use Rattle.trace.specs.declared.confirm.Confirmed.{Confirmed}
 use Rattle.trace.specs.declared.confirm.Confirmed.TheVariants.{Malformed, WrongShape, NoPass, WrongTag, Yes}
 use Rattle.trace.specs.declared.confirm.Opening.{Opening}
-
--- the same blocks are attested
-abbrev pub are_same_ranges : List Range → List Range → Bool
-are_same_ranges [] [] = true
-are_same_ranges (r ∷ more) (s ∷ rest) = (r.first == s.first) && (r.attested == s.attested) && are_same_ranges more rest
-are_same_ranges _ _ = false
-
--- the report's blocks are the attested ones of this memory
-abbrev pub has_shape : Shape → Report → Bool
-has_shape shape r = (r.shape.base == shape.base) && (r.shape.size == shape.size) && are_same_ranges r.shape.ranges shape.ranges
 
 -- how a pass was opened
 abbrev pub opening_of : Pass → Opening
@@ -60,7 +49,7 @@ tag_at key w history r place = report_tag key (asked_of r) r.shape (attested_byt
 -- what a report is told: the first of these cases
 unfoldable pub confirmed_report : List ℕ → Setting → List Entry → Report → Confirmed
 confirmed_report key w history r =
-    if not (has_shape (shape_of w) r) then WrongShape
+    if not (same_shape r.shape (shape_of w)) then WrongShape
     else (if not (names_pass history r) then NoPass
     else (if not (bytes_eq (tag_at key w history r (told_place r)) r.tag) then WrongTag
     else Yes))

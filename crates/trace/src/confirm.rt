@@ -11,15 +11,13 @@ ghost use Rattle.hmac256.specs.States.{StandsFor};
 ghost use Rattle.report.specs.declared.Report.{Report};
 ghost use Rattle.report.specs.Reports.{asked_of, report_in};
 ghost use Rattle.report.specs.Tags.{report_tag};
-ghost use Rattle.trace.specs.Confirm.{IsConfirmed, IsOnPass, are_same_ranges, confirmed, has_shape, is_opening_of, names_pass, opened_at, opening_of, told_place};
+ghost use Rattle.trace.specs.Confirm.{IsConfirmed, IsOnPass, confirmed, is_opening_of, names_pass, opened_at, opening_of, told_place};
 
 use crate::index::Index;
-use chronicle::{
-    Act, Discipline, Entry, Range, Ranges, Shape, World, copied_is_memory, places_of_a_history,
-};
+use chronicle::{Act, Discipline, Entry, World, copied_is_memory, places_of_a_history};
 use history::blocks_in_order;
 use hmac256::Hmac;
-use report::{Report, head_of, read_report, tail};
+use report::{Report, head_of, read_report, same_shape, tail};
 
 /// What a report is told: the first of these cases.
 #[derive(Clone, Copy, Debug, PartialEq, Eq)]
@@ -42,37 +40,6 @@ pub struct Opening {
     pub discipline: Discipline,
     pub counter: u64,
     pub place: u64,
-}
-
-// The two ranges are the same.
-fn is_same_range(a: Range, b: Range) -> bool
-    ensures { result ≡ ((a.first == b.first) && (a.attested == b.attested)) }
-{
-    a.first == b.first && a.attested == b.attested
-}
-
-// The same blocks are attested.
-fn are_same_ranges(a: &Ranges, b: &Ranges) -> bool
-    ensures { result ≡ are_same_ranges a.now b.now }
-{
-    if a.count() != b.count() {
-        return false;
-    }
-    for k in 0..a.count() {
-        if !is_same_range(a.range(k), b.range(k)) {
-            return false;
-        }
-    }
-    true
-}
-
-// The report's blocks are those of the shape.
-fn has_shape(shape: &Shape, report: &Report) -> bool
-    ensures { result ≡ has_shape shape.now report.now }
-{
-    report.shape.base == shape.base
-        && report.shape.size == shape.size
-        && are_same_ranges(&report.shape.ranges, &shape.ranges)
 }
 
 // The pass that this act opens at a place.
@@ -216,7 +183,7 @@ impl<'a> Index<'a> {
     {
         let chronicle = self.chronicle();
         let world = chronicle.world();
-        if !has_shape(&world.shape(), report) {
+        if !same_shape(&report.shape, &world.shape()) {
             return Confirmed::WrongShape;
         }
         if !names_pass(chronicle.entries(), report) {

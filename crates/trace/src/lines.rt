@@ -7,12 +7,13 @@ ghost use Rattle.std.specs.Fork.{slice_chunk};
 ghost use Rattle.std.specs.Slice.Iter.{chunk_count};
 ghost use Rattle.hex.specs.Hex.{encode_lower};
 ghost use Rattle.history.specs.declared.events.Width.TheVariants.{Byte, Half, Word};
+ghost use Rattle.history.specs.declared.events.Act.TheVariants.{Start, Copy};
 ghost use Rattle.history.specs.Layout.{width_bytes};
 ghost use Rattle.text_readers.specs.Digits.{word_digits};
 ghost use Rattle.trace.specs.Text.{text_of_lines, width_digit, width_digits, access_text, act_text, entry_text, range_pair, version_line, memory_line, attest_line, cap_line, head_lines, image_lines, end_line};
 ghost use Rattle.trace.specs.Printable.{ActIsPrintable, IsPrintable};
 
-use chronicle::{Act, Entry, Geometry, Range, Ranges, Width, World};
+use chronicle::{Act, Discipline, Entry, Geometry, Range, Ranges, Width, World};
 use itoa::Buffer;
 use std::alloc::AllocError;
 use text_readers::{byte_digits, word_digits};
@@ -35,107 +36,141 @@ fn half_digits(value: u16) -> [u8; 4]
     digits
 }
 
-// A value in two digits for each byte of its width.
-fn put_value(out: &mut Vec<u8>, width: Width, value: u32) -> Result<(), AllocError>
-    requires { value < 256 ^ width_bytes width }
-    ensures { OnOk result (out.new.items ≡ out.old.items ++ width_digits width value) }
-{
-    match width {
-        Width::Byte => out.extend_from_slice(&byte_digits(value as u8)),
-        Width::Half => out.extend_from_slice(&half_digits(value as u16)),
-        Width::Word => out.extend_from_slice(&word_digits(value)),
-    }
-}
-
-// ` ADDR VALUE`
-fn put_access(out: &mut Vec<u8>, addr: u32, width: Width, value: u32) -> Result<(), AllocError>
-    requires { value < 256 ^ width_bytes width }
-    ensures { OnOk result (out.new.items ≡ out.old.items ++ access_text addr width value) }
-{
-    out.push(b' ')?;
-    out.extend_from_slice(&word_digits(addr))?;
-    out.push(b' ')?;
-    put_value(out, width, value)
-}
-
-// An act, as it stands behind its actor.
-#[tactic(auto, unfolding(crate::specs::Text::act_text))]
-fn put_act(out: &mut Vec<u8>, act: &Act) -> Result<(), AllocError>
-    requires { ActIsPrintable act.now }
-    ensures { OnOk result (out.new.items ≡ out.old.items ++ act_text act.now) }
-{
-    match *act {
-        Act::Fetch { addr, value } => {
-            out.extend_from_slice(b" f")?;
-            put_access(out, addr, Width::Word, value)
-        }
-        Act::Load { addr, width, value } => {
-            out.extend_from_slice(load_word(width))?;
-            put_access(out, addr, width, value)
-        }
-        Act::Store { addr, width, value } => {
-            out.extend_from_slice(store_word(width))?;
-            put_access(out, addr, width, value)
-        }
-        Act::Start {
-            discipline,
-            counter,
-        } => {
-            out.extend_from_slice(b" start ")?;
-            put_number(out, u64::from(discipline.code()))?;
-            out.push(b' ')?;
-            put_number(out, counter)
-        }
-        Act::Copy { block } => {
-            out.extend_from_slice(b" copy ")?;
-            put_number(out, u64::from(block))
-        }
-        Act::End => out.extend_from_slice(b" end"),
-        Act::Tick => out.extend_from_slice(b" tick"),
-        Act::Release => out.extend_from_slice(b" release"),
-    }
-}
-
-fn load_word(width: Width) -> &'static [u8]
-    ensures { result.now ≡ codes " l" ++ width_digit width }
-{
-    match width {
-        Width::Byte => b" l1",
-        Width::Half => b" l2",
-        Width::Word => b" l4",
-    }
-}
-
-fn store_word(width: Width) -> &'static [u8]
-    ensures { result.now ≡ codes " s" ++ width_digit width }
-{
-    match width {
-        Width::Byte => b" s1",
-        Width::Half => b" s2",
-        Width::Word => b" s4",
-    }
-}
-
 // The actor, a digit.
 #[tactic(auto, using(std::proofs::lemmas::Fmt::decimal_digit))]
-fn put_actor(out: &mut Vec<u8>, actor: u32) -> Result<(), AllocError>
+fn actor_digit(actor: u32) -> u8
     requires { actor ≤ 8 }
-    ensures { OnOk result (out.new.items ≡ out.old.items ++ decimal actor) }
+    ensures { decimal actor ≡ result ∷ [] }
 {
-    out.push(b'0' + actor as u8)?;
+    b'0' + actor as u8
+}
+
+// `A f ADDR VALUE`, with the line's end. The actor is a digit here and below.
+fn fetch_line(actor: u8, addr: u32, value: u32) -> [u8; 22]
+    ensures { result ≡ actor ∷ codes " f" ++ access_text addr Word value ++ 10 ∷ [] }
+{
+    let d = word_digits(addr);
+    let v = word_digits(value);
+    [
+        actor, b' ', b'f', b' ', d[0], d[1], d[2], d[3], d[4], d[5], d[6], d[7], b' ', v[0], v[1],
+        v[2], v[3], v[4], v[5], v[6], v[7], b'\n',
+    ]
+}
+
+// `A K1 ADDR VALUE`, the line of a load or a store, whose letter is K, with its end.
+fn byte_line(actor: u8, letter: u8, addr: u32, value: u8) -> [u8; 17]
+    ensures { result ≡ actor ∷ 32 ∷ letter ∷ width_digit Byte ++ access_text addr Byte value ++ 10 ∷ [] }
+{
+    let d = word_digits(addr);
+    let v = byte_digits(value);
+    [
+        actor, b' ', letter, b'1', b' ', d[0], d[1], d[2], d[3], d[4], d[5], d[6], d[7], b' ',
+        v[0], v[1], b'\n',
+    ]
+}
+
+// `A K2 ADDR VALUE`
+fn half_line(actor: u8, letter: u8, addr: u32, value: u16) -> [u8; 19]
+    ensures { result ≡ actor ∷ 32 ∷ letter ∷ width_digit Half ++ access_text addr Half value ++ 10 ∷ [] }
+{
+    let d = word_digits(addr);
+    let v = half_digits(value);
+    [
+        actor, b' ', letter, b'2', b' ', d[0], d[1], d[2], d[3], d[4], d[5], d[6], d[7], b' ',
+        v[0], v[1], v[2], v[3], b'\n',
+    ]
+}
+
+// `A K4 ADDR VALUE`
+fn word_line(actor: u8, letter: u8, addr: u32, value: u32) -> [u8; 23]
+    ensures { result ≡ actor ∷ 32 ∷ letter ∷ width_digit Word ++ access_text addr Word value ++ 10 ∷ [] }
+{
+    let d = word_digits(addr);
+    let v = word_digits(value);
+    [
+        actor, b' ', letter, b'4', b' ', d[0], d[1], d[2], d[3], d[4], d[5], d[6], d[7], b' ',
+        v[0], v[1], v[2], v[3], v[4], v[5], v[6], v[7], b'\n',
+    ]
+}
+
+// The line of a load or a store, whose letter this is, with its end.
+fn put_access(
+    out: &mut Vec<u8>,
+    actor: u8,
+    letter: u8,
+    addr: u32,
+    width: Width,
+    value: u32,
+) -> Result<(), AllocError>
+    requires { value < 256 ^ width_bytes width }
+    ensures { OnOk result (out.new.items ≡ out.old.items ++ actor ∷ 32 ∷ letter ∷ width_digit width ++ access_text addr width value ++ 10 ∷ []) }
+{
+    match width {
+        Width::Byte => out.extend_from_slice(&byte_line(actor, letter, addr, value as u8)),
+        Width::Half => out.extend_from_slice(&half_line(actor, letter, addr, value as u16)),
+        Width::Word => out.extend_from_slice(&word_line(actor, letter, addr, value)),
+    }
+}
+
+// `A start CODE COUNTER`, with the line's end.
+#[tactic(auto, unfolding(crate::specs::Text::act_text))]
+fn put_start(
+    out: &mut Vec<u8>,
+    actor: u8,
+    discipline: Discipline,
+    counter: u64,
+) -> Result<(), AllocError>
+    ensures { OnOk result (out.new.items ≡ out.old.items ++ actor ∷ act_text (Start discipline counter) ++ 10 ∷ []) }
+{
+    out.push(actor)?;
+    out.extend_from_slice(b" start ")?;
+    put_number(out, u64::from(discipline.code()))?;
+    out.push(b' ')?;
+    put_number(out, counter)?;
+    out.push(b'\n')?;
     Ok(())
 }
 
-// The line of an entry, with its end.
-#[tactic(auto, unfolding(crate::specs::Text::entry_text))]
+// `A copy BLOCK`, with the line's end.
+#[tactic(auto, unfolding(crate::specs::Text::act_text))]
+fn put_copy(out: &mut Vec<u8>, actor: u8, block: u32) -> Result<(), AllocError>
+    ensures { OnOk result (out.new.items ≡ out.old.items ++ actor ∷ act_text (Copy block) ++ 10 ∷ []) }
+{
+    out.push(actor)?;
+    out.extend_from_slice(b" copy ")?;
+    put_number(out, u64::from(block))?;
+    out.push(b'\n')?;
+    Ok(())
+}
+
+// An actor and the rest of its line.
+fn put_plain(out: &mut Vec<u8>, actor: u8, rest: &[u8]) -> Result<(), AllocError>
+    ensures { OnOk result (out.new.items ≡ out.old.items ++ actor ∷ rest.now) }
+{
+    out.push(actor)?;
+    out.extend_from_slice(rest)
+}
+
+// The line of an entry, with its end. An access is one piece, since nearly all entries are accesses.
+#[tactic(auto, unfolding(crate::specs::Text::entry_text, crate::specs::Text::act_text))]
 fn put_entry(out: &mut Vec<u8>, entry: &Entry) -> Result<(), AllocError>
     requires { IsPrintable entry.now }
     ensures { OnOk result (out.new.items ≡ out.old.items ++ (entry_text entry.now ++ 10 ∷ [])) }
 {
-    put_actor(out, entry.actor)?;
-    put_act(out, &entry.act)?;
-    out.push(b'\n')?;
-    Ok(())
+    let actor = actor_digit(entry.actor);
+    match entry.act {
+        Act::Fetch { addr, value } => out.extend_from_slice(&fetch_line(actor, addr, value)),
+        Act::Load { addr, width, value } => put_access(out, actor, b'l', addr, width, value),
+        Act::Store { addr, width, value } => put_access(out, actor, b's', addr, width, value),
+        Act::Start {
+            discipline,
+            counter,
+        } => put_start(out, actor, discipline, counter),
+        Act::Copy { block } => put_copy(out, actor, block),
+        Act::End => put_plain(out, actor, b" end\n"),
+        Act::Tick => put_plain(out, actor, b" tick\n"),
+        Act::Release => put_plain(out, actor, b" release\n"),
+    }
 }
 
 /// The lines of entries.

@@ -88,6 +88,7 @@ pub fn decimal_at(end: u8, text: &[u8]) -> Option<(u64, &[u8])>
 
 // ` ADDR VALUE` of this width, up to the line's end.
 #[tactic(auto, unfolding(crate::specs::Reading::access_at))]
+#[inline(always)]
 fn access_at(width: Width, text: &[u8]) -> Option<(u32, u32, &[u8])>
     ensures { option_map (λ found. (found.0, found.1, found.2.now)) result ≡ access_at width text.now }
 {

@@ -13,8 +13,16 @@ use std::sync::Wait;
 use std::test::Fail;
 use std::thread::{Threads, join};
 
-/// How many turns each of nine threads makes.
-const TURNS: u32 = 200;
+/// What nine threads do.
+#[derive(Clone, Copy, Drop)]
+struct Work {
+    /// How many turns each makes.
+    turns: u32,
+    /// For how many pauses actor 0 holds each of its turns.
+    hold: u32,
+    /// For how many pauses each other actor waits before its first turn.
+    late: u32,
+}
 
 /// A list of entries of a world. It needn't be legal.
 #[derive(Drop)]
@@ -68,21 +76,27 @@ fn note_once<R: Wait>(rt: &R, cell: &TurnCell<Diary>, pass: Pass, pauses: u32) -
     cell.leave(turn)
 }
 
-/// Many turns. Actor 0 holds each for longer than others wait before they sleep.
-fn note_often<R: Wait>(rt: &R, cell: &TurnCell<Diary>, pass: Pass) -> Pass
+/// The turns of one actor.
+fn note_often<R: Wait>(rt: &R, cell: &TurnCell<Diary>, pass: Pass, work: Work) -> Pass
     requires { pass.cell ≡ cell.now }
     ensures { (result.cell ≡ pass.cell) × (result.low ≡ pass.low) × (result.high ≡ pass.high) }
 {
-    let pauses = if pass.low() == 0 { 50_000 } else { 0 };
+    let is_first = pass.low() == 0;
+    wait_for(if is_first { 0 } else { work.late });
     let mut pass = pass;
-    for _ in 0..TURNS {
-        pass = note_once(rt, cell, pass, pauses);
+    for _ in 0..work.turns {
+        pass = note_once(rt, cell, pass, if is_first { work.hold } else { 0 });
     }
     pass
 }
 
 /// The turns of all actors of a range, each in a thread of its own.
-fn note_all<R: Threads + Wait + Sync>(rt: &R, cell: &TurnCell<Diary>, pass: Pass) -> Pass
+fn note_all<R: Threads + Wait + Sync>(
+    rt: &R,
+    cell: &TurnCell<Diary>,
+    pass: Pass,
+    work: Work,
+) -> Pass
     requires sync { IsSync R.row }
     requires cell { pass.cell ≡ cell.now }
     requires some { pass.low < pass.high }
@@ -90,7 +104,7 @@ fn note_all<R: Threads + Wait + Sync>(rt: &R, cell: &TurnCell<Diary>, pass: Pass
 {
     let count = pass.high() - pass.low();
     if count == 1 {
-        return note_often(rt, cell, pass);
+        return note_often(rt, cell, pass, work);
     }
     let middle = pass.low() + count / 2;
     let mut first = pass;
@@ -98,11 +112,11 @@ fn note_all<R: Threads + Wait + Sync>(rt: &R, cell: &TurnCell<Diary>, pass: Pass
     let lower = move || -> Pass
         requires { IsSync R.row × (first.cell ≡ cell.now) × (first.low < first.high) }
         ensures { (result.cell ≡ first.cell) × (result.low ≡ first.low) × (result.high ≡ first.high) }
-    { note_all(rt, cell, first) };
+    { note_all(rt, cell, first, work) };
     let upper = move || -> Pass
         requires { IsSync R.row × (second.cell ≡ cell.now) × (second.low < second.high) }
         ensures { (result.cell ≡ second.cell) × (result.low ≡ second.low) × (result.high ≡ second.high) }
-    { note_all(rt, cell, second) };
+    { note_all(rt, cell, second, work) };
     let (left, right) = join(rt, lower, upper);
     cell.join(left, right)
 }
@@ -170,18 +184,57 @@ fn turns_follow_one_another(rt: HostRuntime) -> Result<(), Fail> {
     Ok(())
 }
 
-/// Nine threads of which one holds its turn again and again, so that the others sleep.
-#[test]
-fn nine_threads_write_one_diary(rt: HostRuntime) -> Result<(), Fail> {
+/// The diary that nine threads write, of which each does so much.
+fn written_by_nine<R: Alloc<A = Global> + Threads + Wait + Sync>(
+    rt: &R,
+    work: Work,
+) -> Result<Diary, Fail>
+    requires { IsSync R.row }
+{
     let alloc = rt.alloc();
-    let Ok((cell, whole)) = TurnCell::new(alloc, empty_diary(&rt)?, 9) else {
+    let Ok((cell, whole)) = TurnCell::new(alloc, empty_diary(rt)?, 9) else {
         return Err("no memory".into());
     };
-    let whole = note_all(&rt, &cell, whole);
-    let diary = cell.close(whole);
+    let whole = note_all(rt, &cell, whole, work);
+    Ok(cell.close(whole))
+}
+
+/// How many entries of the diary are by this actor.
+fn count_of(diary: &Diary, actor: u32) -> usize {
+    diary
+        .entries
+        .iter()
+        .filter(|entry| entry.actor == actor)
+        .count()
+}
+
+/// One of them holds its turn again and again for longer than others wait before they sleep.
+#[test]
+fn nine_threads_write_one_diary(rt: HostRuntime) -> Result<(), Fail> {
+    let work = Work {
+        turns: 200,
+        hold: 50_000,
+        late: 0,
+    };
+    let diary = written_by_nine(&rt, work)?;
     for actor in 0..9u32 {
-        let own = diary.entries.iter().filter(|entry| entry.actor == actor);
-        assert_eq!(rt; own.count(), TURNS as usize);
+        assert_eq!(rt; count_of(&diary, actor), 200);
+    }
+    Ok(())
+}
+
+/// One turn each: while actor 0 holds its turn all others fall asleep. Whoever is woken makes its only turn, and
+/// has to wake the next, since nobody else comes who would.
+#[test]
+fn each_that_sleeps_is_woken(rt: HostRuntime) -> Result<(), Fail> {
+    let work = Work {
+        turns: 1,
+        hold: 2_000_000,
+        late: 100_000,
+    };
+    let diary = written_by_nine(&rt, work)?;
+    for actor in 0..9u32 {
+        assert_eq!(rt; count_of(&diary, actor), 1);
     }
     Ok(())
 }

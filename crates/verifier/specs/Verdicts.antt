@@ -1,7 +1,6 @@
 -- The verdicts on a report and on a release note: the first of these cases.
-use Rattle.std.specs.Prelude.{ℕ, Bool, true, false, ◌&&◌, not, ◌==◌, nat_le, List, [], ◌∷◌, bytes_eq, Option, Some, None, if◌then◌else◌}
+use Rattle.std.specs.Prelude.{ℕ, Bool, ◌&&◌, not, ◌==◌, nat_le, List, bytes_eq, Option, Some, None, if◌then◌else◌}
 use Rattle.history.specs.declared.events.Discipline.{Discipline}
-use Rattle.history.specs.declared.ranges.Range.{Range}
 use Rattle.history.specs.Names.{code_of}
 use Rattle.history.specs.Pass.{is_extended}
 use Rattle.challenge.specs.declared.Challenge.{Challenge}
@@ -10,6 +9,7 @@ use Rattle.report.specs.declared.Report.{Report}
 use Rattle.report.specs.declared.Note.{Note}
 use Rattle.report.specs.Notes.{note_in}
 use Rattle.report.specs.Reports.{report_in}
+use Rattle.report.specs.Shapes.{same_shape}
 use Rattle.report.specs.Tags.{note_tag}
 use Rattle.image_set.specs.declared.Image.{Image}
 use Rattle.image_set.specs.Match.{first_match}
@@ -29,14 +29,6 @@ pub record Standing : Type 0 where
 -- each discipline has its own code
 abbrev pub same_discipline : Discipline → Discipline → Bool
 same_discipline a b = code_of a == code_of b
-
-abbrev pub same_ranges : List Range → List Range → Bool
-same_ranges [] [] = true
-same_ranges (r ∷ more) (s ∷ rest) = (r.first == s.first) && (r.attested == s.attested) && same_ranges more rest
-same_ranges _ _ = false
-
-abbrev pub same_shape : Shape → Shape → Bool
-same_shape a b = (a.base == b.base) && (a.size == b.size) && same_ranges a.ranges b.ranges
 
 -- the report says that it answers this challenge
 abbrev pub answers : Challenge → Report → Bool

@@ -1,13 +1,12 @@
 //! The verdicts.
 
-ghost use Rattle.std.specs.Prelude.{◌≡◌, ◌==◌, ◌&&◌};
-ghost use Rattle.verifier.specs.Verdicts.{has_note_tag, is_on, note_verdict_on, same_ranges, same_shape};
+ghost use Rattle.std.specs.Prelude.{◌≡◌};
+ghost use Rattle.verifier.specs.Verdicts.{has_note_tag, is_on, note_verdict_on};
 
 use challenge::Challenge;
 use chronicle::Shape;
 use image_set::ImageSet;
-use lock_plan::{Range, Ranges};
-use report::{Note, Report, note_tag, read_note, read_report};
+use report::{Note, Report, note_tag, read_note, read_report, same_shape};
 use std::marker::Model;
 
 /// The verdict on a report: the first of these cases.
@@ -47,35 +46,6 @@ pub enum NoteVerdict {
         /// The place of Release in the history.
         release: u64,
     },
-}
-
-// Both ranges have the same blocks.
-fn same_range(a: Range, b: Range) -> bool
-    ensures { result ≡ ((a.first == b.first) && (a.attested == b.attested)) }
-{
-    a.first == b.first && a.attested == b.attested
-}
-
-// The same blocks are attested.
-fn same_ranges(a: &Ranges, b: &Ranges) -> bool
-    ensures { result ≡ same_ranges a.now b.now }
-{
-    if a.count() != b.count() {
-        return false;
-    }
-    for k in 0..a.count() {
-        if !same_range(a.range(k), b.range(k)) {
-            return false;
-        }
-    }
-    true
-}
-
-// The two shapes are the same.
-fn same_shape(a: &Shape, b: &Shape) -> bool
-    ensures { result ≡ same_shape a.now b.now }
-{
-    a.base == b.base && a.size == b.size && same_ranges(&a.ranges, &b.ranges)
 }
 
 // The note is on the release of what the report is on.

@@ -1,7 +1,7 @@
 use Rattle.std.proofs.Common.{◌+◌, ◌&&◌, Bool, drop, sym, ap, ◌∙◌}
-use Rattle.verifier.specs.Verdicts.{same_ranges}
-use Rattle.verifier.proofs.SameRanges.{at_place, other_count}
-use Rattle.verifier.proofs.verdicts.same_ranges.Goals as goal
+use Rattle.report.specs.Shapes.{same_ranges}
+use Rattle.report.proofs.SameRanges.{at_place, other_count}
+use Rattle.report.proofs.shapes.same_ranges.Goals as goal
 
 pub returns-then-count : goal.returns-then-count
 returns-then-count c =

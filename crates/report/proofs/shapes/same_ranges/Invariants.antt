@@ -1,6 +1,6 @@
 use Rattle.std.proofs.Common.{◌≡◌, drop}
-use Rattle.verifier.specs.Verdicts.{same_ranges}
-use Rattle.verifier.proofs.verdicts.same_ranges.Given as goal
+use Rattle.report.specs.Shapes.{same_ranges}
+use Rattle.report.proofs.shapes.same_ranges.Given as goal
 
 -- the ranges before this place are the same
 abbrev pub invariant-loop-k : goal.invariant-loop-k
