@@ -31,10 +31,7 @@ pub fn read_common(alloc: Global, table: &Table) -> Result<Common, DeviceFault>
     ensures value { AnswersByRules (common (table_view table.now)) result }
     ensures region { IfOk result (λ found. IsRegion found.region) }
 {
-    let region = match read_region(table) {
-        Ok(region) => region,
-        Err(fault) => return Err(fault),
-    };
+    let region = read_region(table)?;
     let Some(key) = name_at(table, "key") else {
         return Err(DeviceFault::Rule(7));
     };

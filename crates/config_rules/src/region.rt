@@ -201,9 +201,6 @@ pub fn read_region(table: &Table) -> Result<Region, DeviceFault>
     let Some(geometry) = memory_layout(table, base, size) else {
         return Err(DeviceFault::Rule(4));
     };
-    let ranges = match read_ranges(table, geometry.blocks()) {
-        Ok(ranges) => ranges,
-        Err(fault) => return Err(fault),
-    };
+    let ranges = read_ranges(table, geometry.blocks())?;
     Ok(Region { geometry, ranges })
 }

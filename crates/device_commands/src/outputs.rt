@@ -4,7 +4,6 @@ ghost use Rattle.std.specs.Prelude.{◌≡◌, ◌++◌, ◌∷◌, [], All, IfO
 ghost use Rattle.std.specs.List.{list_all, list_any};
 ghost use Rattle.att_base.specs.Files.{IsName};
 ghost use Rattle.trace.specs.Printable.{IsPrintable};
-ghost use Rattle.message_commands.specs.Plans.{accepts};
 ghost use Rattle.device_config.specs.Plans.{IsAppPlan, IsChallengePlan, IsDevicePlan};
 ghost use Rattle.command_plans.specs.Answered.{Gives};
 ghost use Rattle.device_commands.specs.ChallengeEnds.{IsSoundEnd, IsSoundPass, challenge_ends};
@@ -19,9 +18,9 @@ use command_plans::{Ending, FileParts, Output, Parts, Planned, Stop};
 use device::{AppEnd, Outcome, PassEnd};
 use device_config::{AppPlan, ChallengePlan, DevicePlan};
 use device_inputs::Admission;
+use message_commands::accepts;
 use report::{write_note, write_report};
 use std::alloc::{AllocError, Global};
-use verifier::Verdict;
 
 // Appends a file.
 fn put_file<B: FileParts + Drop>(
@@ -230,19 +229,6 @@ pub fn is_cut(outcome: &Outcome) -> bool
     ensures { result ≡ is_cut outcome.now }
 {
     an_app_is_cut(outcome.apps.as_slice()) || a_pass_is_cut(outcome.passes.as_slice())
-}
-
-fn accepts(verdict: Verdict) -> bool
-    ensures { result ≡ accepts verdict }
-{
-    match verdict {
-        Verdict::Accepted { .. } => true,
-        Verdict::Malformed
-        | Verdict::WrongChallenge
-        | Verdict::Stale { .. }
-        | Verdict::WrongShape
-        | Verdict::UnknownMemory => false,
-    }
 }
 
 // The challenge was admitted, and its report accepted.

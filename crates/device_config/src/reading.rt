@@ -88,13 +88,7 @@ pub fn read_device(alloc: Global, bytes: &[u8]) -> Result<DevicePlan, DeviceFaul
     ensures file { AnswersByRules (device_file bytes.now) result }
     ensures plan { IfOk result IsDevicePlan }
 {
-    let table = match read_document(alloc, bytes) {
-        Ok(table) => table,
-        Err(fault) => return Err(fault),
-    };
-    let common = match read_common(alloc, &table) {
-        Ok(common) => common,
-        Err(fault) => return Err(fault),
-    };
+    let table = read_document(alloc, bytes)?;
+    let common = read_common(alloc, &table)?;
     read_rules(alloc, &table, common)
 }

@@ -26,10 +26,7 @@ impl Listing {
     pub fn new(file: Vec<u8>) -> Result<Listing, ElfFault>
         ensures { result_map_both listing_left (λ fault. fault) result ≡ result_map_both (λ elf. listing_of elf.segments) (λ fault. fault) (elf_of file.items) }
     {
-        match read(file.as_slice()) {
-            Ok(_) => {}
-            Err(fault) => return Err(fault),
-        }
+        let _elf = read(file.as_slice())?;
         Ok(Listing {
             file,
             cursor: start(),

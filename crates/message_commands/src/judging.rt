@@ -13,7 +13,8 @@ use report::read_report;
 use std::alloc::{AllocError, Global};
 use verifier::{NoteVerdict, Verdict, Verifier};
 
-fn accepts(verdict: Verdict) -> bool
+/// Whether the verdict is that the report is of a known image.
+pub fn accepts(verdict: Verdict) -> bool
     ensures { result ≡ accepts verdict }
 {
     match verdict {

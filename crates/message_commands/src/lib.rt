@@ -23,6 +23,7 @@ mod words;
 mod worked;
 
 pub use asking::prepare_challenge;
+pub use judging::accepts;
 pub use verifying::prepare_verify;
 pub use words::challenge_of;
 pub use worked::{challenges_of_words, lines_of_verdicts};

@@ -53,14 +53,8 @@ fn verifier_plan(common: Common, challenge: Text, images: Items<Text>) -> Verifi
 pub fn read_verifier(alloc: Global, bytes: &[u8]) -> Result<VerifierPlan, DeviceFault>
     ensures { AnswersByRules (verifier_file bytes.now) result }
 {
-    let table = match read_document(alloc, bytes) {
-        Ok(table) => table,
-        Err(fault) => return Err(fault),
-    };
-    let common = match read_common(alloc, &table) {
-        Ok(common) => common,
-        Err(fault) => return Err(fault),
-    };
+    let table = read_document(alloc, bytes)?;
+    let common = read_common(alloc, &table)?;
     let challenge = match name_at(&table, "challenge") {
         Some(name) => name,
         None => return Err(DeviceFault::Rule(9)),
