@@ -77,6 +77,44 @@ fn two_that_touch(rt: HostRuntime) -> Result<(), Fail> {
     Ok(())
 }
 
+#[test]
+fn eight_files_fill_memory(rt: HostRuntime) -> Result<(), Fail> {
+    let alloc = rt.alloc();
+    let Some(memory) = Geometry::new(0x8000_0000, 16, 8) else {
+        return Err("no geometry".into());
+    };
+    let files = [
+        application(alloc, 0x8000_0070, 0x8000_0000)?,
+        application(alloc, 0x8000_0000, 0x8000_0010)?,
+        application(alloc, 0x8000_0060, 0x8000_0020)?,
+        application(alloc, 0x8000_0010, 0x8000_0030)?,
+        application(alloc, 0x8000_0050, 0x8000_0040)?,
+        application(alloc, 0x8000_0020, 0x8000_0050)?,
+        application(alloc, 0x8000_0040, 0x8000_0060)?,
+        application(alloc, 0x8000_0030, 0x8000_007c)?,
+    ];
+    let placed = place(alloc, &memory, &files)?;
+    assert_eq!(rt;
+        placed.image.as_slice(),
+        b"0123456789abcdef0123456789abcdef0123456789abcdef0123456789abcdef0123456789abcdef0123456789abcdef0123456789abcdef0123456789abcdef".as_slice()
+    );
+    assert_eq!(rt;
+        placed.entries.as_slice(),
+        [
+            0x8000_0000,
+            0x8000_0010,
+            0x8000_0020,
+            0x8000_0030,
+            0x8000_0040,
+            0x8000_0050,
+            0x8000_0060,
+            0x8000_007c,
+        ]
+        .as_slice()
+    );
+    Ok(())
+}
+
 // Why two applications, each by its address and its entry, can't be placed.
 fn fault_of(
     alloc: Global,
