@@ -29,8 +29,8 @@ bench: build
 	python3 bench/assembly.py $(PROGRAM)
 	python3 bench/listing.py $(PROGRAM)
 	python3 bench/verify.py $(PROGRAM)
-	python3 bench/sched.py $(PROGRAM)
 	@cd crates/turn_bench && { rt run <stdin >build.log 2>&1 || { tail -n 20 build.log; exit 1; }; }
 	python3 bench/turns.py crates/turn_bench/out/turn_bench
+	python3 bench/sched.py $(PROGRAM) crates/turn_bench/out/turn_bench
 	python3 bench/run.py $(PROGRAM) crates/turn_bench/out/turn_bench
 	python3 bench/check.py $(PROGRAM) crates/turn_bench/out/turn_bench

@@ -1,16 +1,20 @@
 #!/usr/bin/env python3
 """Times `attest sched` on a device of eight applications that count in memory, and two challenges, trace file and all.
 
-Usage: sched.py PROGRAM [LOOPS]   (LOOPS is how often each application loops in the longest run, 67,000 unless given)
+Usage: sched.py PROGRAM TURN_BENCH [LOOPS]   (LOOPS is how often each application loops in the longest run, 67,000 unless given)
 
 Each loop is seven entries. Prints, for each length, the entries, the seconds of the best of three runs, entries a second and
-the greatest resident memory in KiB. Linear growth shows as seconds that double.
+the greatest resident memory in KiB. Linear growth shows as seconds that double. Beside them stand the entries a second of a bare
+core in the same mix, by TURN_BENCH.
 """
 import os
 import subprocess
 import sys
 import tempfile
 import time
+
+sys.dont_write_bytecode = True
+import turns  # those of this folder
 
 APPS = 8
 
@@ -70,8 +74,8 @@ def timed(*words):
 
 
 def main():
-    program = os.path.abspath(sys.argv[1])
-    most = int(sys.argv[2]) if len(sys.argv) > 2 else 67_000
+    program, turn_bench = (os.path.abspath(word) for word in sys.argv[1:3])
+    most = int(sys.argv[3]) if len(sys.argv) > 3 else 67_000
     with tempfile.TemporaryDirectory() as folder:
         os.chdir(folder)
         prepare(program)
@@ -81,6 +85,8 @@ def main():
             best, entries = min(r[0] for r in runs), runs[0][2]
             print(f"{entries:8} entries  {best:.3f} s  {entries / best:,.0f} a second  {max(r[1] for r in runs)} KiB")
         os.chdir("/")
+    bare = turns.best(turn_bench, "bare", 1, entries // turns.MIX * turns.MIX, 3)
+    print(f"  a bare core: {bare:,.0f} a second, {bare * best / entries:.1f} times as many")
 
 
 if __name__ == "__main__":
