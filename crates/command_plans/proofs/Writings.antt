@@ -35,6 +35,10 @@ more_told whole rest behind piece old mid now h is put = record {
   grown = put ∙ ap (λ (o : Option (List ℕ)). put_after o piece) h.grown ∙ put_after-put_after old h.front piece;
 }
 
+-- this is still to be told behind the piece
+pub left_to_tell : (whole rest behind piece : List ℕ) (old mid : Option (List ℕ)) → HasTold whole rest old mid → rest ≡ piece ++ behind → (front : List ℕ) × (whole ≡ front ++ behind)
+left_to_tell whole rest behind piece old mid h is = (h.front ++ piece, h.split ∙ ap (λ (r : List ℕ). h.front ++ r) is ∙ sym (append_assoc h.front piece behind))
+
 pub all_told : (whole rest : List ℕ) (old now : Option (List ℕ)) → HasTold whole rest old now → rest ≡ [] → now ≡ put_after old whole
 all_told whole rest old now h none =
     let all : h.front ≡ whole = sym (append-nil h.front) ∙ ap (λ (r : List ℕ). h.front ++ r) (sym none) ∙ sym h.split in
@@ -61,6 +65,10 @@ front_behind first whole old mid now put more =
 pub err_behind : {T E : Type 0} (r : Result T E) (first whole : List ℕ) (old mid now : Option (List ℕ)) → mid ≡ put_after old first → OnErr r (AppendsFront mid now whole) → OnErr r (AppendsFront old now (first ++ whole))
 err_behind (Ok v) first whole old mid now put more = tt
 err_behind (Err e) first whole old mid now put more = front_behind first whole old mid now put more
+
+-- all that stood first is told, and of the rest this is left
+pub left_behind : (whole first rest kept left front : List ℕ) → whole ≡ first ++ rest → rest ≡ front ++ left → kept ≡ [] → (told : List ℕ) × (whole ≡ told ++ (kept ++ left))
+left_behind whole first rest kept left front all is none = (first ++ front, all ∙ ap (λ (r : List ℕ). first ++ r) is ∙ sym (append_assoc first front left) ∙ ap (λ (k : List ℕ). (first ++ front) ++ (k ++ left)) (sym none))
 
 pub front_before : (first whole : List ℕ) (old now : Option (List ℕ)) → AppendsFront old now first → AppendsFront old now (first ++ whole)
 front_before first whole old now put = record {

@@ -1,6 +1,6 @@
 //! What a command has to write, before anything is written.
 
-ghost use Rattle.std.specs.Prelude.{◌≡◌, ◌≤◌, [], All, IfOk, OnOk, OnErr, string_bytes};
+ghost use Rattle.std.specs.Prelude.{◌≡◌, ◌≤◌, ℕ, List, [], ◌++◌, All, IfOk, OnOk, OnErr, string_bytes};
 ghost use Rattle.att_base.specs.Faults.{FaultCountRose};
 ghost use Rattle.att_base.specs.Streams.{put_after, AppendsFront};
 ghost use Rattle.att_base.specs.Files.{IsName, put_under, PutsFront, CountsWrite};
@@ -172,10 +172,13 @@ impl<P: Parts + Drop, B: FileParts + Drop> Output<P, B> {
         self.line.as_str()
     }
 
-    /// Appends all that goes to standard output. After `Failed` a front of it was appended. It takes no memory.
+    /// Appends all that goes to standard output, and leaves nothing of it. After `Failed` a front of it was appended, and an
+    /// end of it is left. It takes no memory.
     pub fn put_out<K: Sink>(&mut self, out: &mut K) -> Result<(), Failed>
         ensures ok { OnOk result (K.held out.new ≡ put_after (K.held out.old) self.old.out) }
         ensures err { OnErr result (AppendsFront (K.held out.old) (K.held out.new) self.old.out) }
+        ensures spent { OnOk result (self.new.out ≡ []) }
+        ensures left { (front : List ℕ) × (self.old.out ≡ front ++ self.new.out) }
         ensures cause { OnErr result (FaultCountRose (K.faults out.old) (K.faults out.new)) }
         ensures quiet { OnOk result (K.faults out.new ≡ K.faults out.old) }
         ensures later { K.faults out.old ≤ K.faults out.new }
@@ -183,6 +186,7 @@ impl<P: Parts + Drop, B: FileParts + Drop> Output<P, B> {
         ensures ending { self.new.ending ≡ self.old.ending }
     {
         put_all(out, &self.out)?;
+        self.out.clear();
         put_rest(out, &mut self.rest)
     }
 }

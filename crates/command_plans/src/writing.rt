@@ -13,10 +13,13 @@ use std::alloc::Global;
 /// The most bytes that go to standard output in one piece, of what is told in parts.
 const PIECE_LEN: usize = 4096;
 
-/// Appends all that the parts tell, piece by piece. After `Failed` a front of it was appended. It takes no memory.
+/// Appends all that the parts tell, piece by piece, and leaves nothing to tell. After `Failed` a front of it was appended,
+/// and what is still to be told is an end of it. It takes no memory.
 pub fn put_parts<K: Sink, P: Parts>(sink: &mut K, parts: &mut P) -> Result<(), Failed>
     ensures ok { OnOk result (K.held sink.new ≡ put_after (K.held sink.old) (P.told parts.old)) }
     ensures err { OnErr result (AppendsFront (K.held sink.old) (K.held sink.new) (P.told parts.old)) }
+    ensures spent { OnOk result (P.told parts.new ≡ []) }
+    ensures left { (front : List ℕ) × (P.told parts.old ≡ front ++ P.told parts.new) }
     ensures cause { OnErr result (FaultCountRose (K.faults sink.old) (K.faults sink.new)) }
     ensures quiet { OnOk result (K.faults sink.new ≡ K.faults sink.old) }
     ensures later { K.faults sink.old ≤ K.faults sink.new }
@@ -31,10 +34,12 @@ pub fn put_parts<K: Sink, P: Parts>(sink: &mut K, parts: &mut P) -> Result<(), F
     }
 }
 
-/// Appends all that the rest tells, where there is one.
+/// Appends all that the rest tells, where there is one, and leaves nothing of it, or after `Failed` an end.
 pub fn put_rest<K: Sink, P: Parts>(sink: &mut K, rest: &mut Option<P>) -> Result<(), Failed>
     ensures ok { OnOk result (K.held sink.new ≡ put_after (K.held sink.old) (rest_bytes P.told rest.old)) }
     ensures err { OnErr result (AppendsFront (K.held sink.old) (K.held sink.new) (rest_bytes P.told rest.old)) }
+    ensures spent { OnOk result (rest_bytes P.told rest.new ≡ []) }
+    ensures left { (front : List ℕ) × (rest_bytes P.told rest.old ≡ front ++ rest_bytes P.told rest.new) }
     ensures cause { OnErr result (FaultCountRose (K.faults sink.old) (K.faults sink.new)) }
     ensures quiet { OnOk result (K.faults sink.new ≡ K.faults sink.old) }
     ensures later { K.faults sink.old ≤ K.faults sink.new }

@@ -1,12 +1,14 @@
 -- Images, one after the other.
 use Rattle.std.proofs.Common.{◌≡◌, ℕ, ◌+◌, List, [], ◌∷◌, ◌++◌, length, Result, Ok, Err, arith}
 use Rattle.std.proofs.lemmas.List.Sums.{sum_by-append}
+use Rattle.std.specs.Result.{IsErrAnd}
 use Rattle.att_base.specs.Files.{FilesView}
 use Rattle.image_set.specs.declared.Image.{Image}
 use Rattle.image_set.specs.Match.{Known, with_image}
 use Rattle.command_plans.specs.Steps.{Reason}
-use Rattle.command_plans.specs.Answered.{ReadsBy}
-use Rattle.command_plans.proofs.Binds.{stopped, goes_on}
+use Rattle.command_plans.specs.declared.output.Stop.{Stop}
+use Rattle.command_plans.specs.Answered.{ReadsBy, came_of, reason_of}
+use Rattle.command_plans.proofs.Binds.{goes_on, stops}
 use Rattle.input_files.specs.InputFiles.{ImageIn, ReadImages, total_bytes}
 
 -- the bytes of a set with one image more
@@ -34,8 +36,9 @@ one_more rest behind names name set more start old mid next g split image = reco
 }
 
 -- an image that stops it
-pub image_stops : (rest behind names : List (List ℕ)) (name : List ℕ) (set start : Known) (reason : Reason) (old mid new : FilesView) → GoesOn rest set names start old mid → rest ≡ name ∷ behind
-    → ReadsBy {A = Known} (ImageIn name set) (Err reason) mid new → ReadsBy {A = Known} (ReadImages names start) (Err reason) old new
-image_stops rest behind names name set start reason old mid new g split image =
-    let all : ReadsBy {A = Known} (ReadImages (name ∷ behind) set) (Err reason) mid new = stopped (ImageIn name set) (ReadImages behind) reason mid new image in
-    g.on (Err reason) new (rw split all)
+pub image_stops : (rest behind names : List (List ℕ)) (name : List ℕ) (set start : Known) (result : Result Known Stop) (stop : Stop) (old mid new : FilesView) → GoesOn rest set names start old mid → rest ≡ name ∷ behind
+    → IsErrAnd result (λ e. e ≡ stop) → ReadsBy {A = Known} (ImageIn name set) (Err (reason_of stop)) mid new → ReadsBy {A = Known} (ReadImages names start) (came_of (λ (v : Known). v) result) old new
+image_stops rest behind names name set start result stop old mid new g split is image =
+    let came : Result Known Reason = came_of (λ (v : Known). v) result in
+    let all : ReadsBy {A = Known} (ReadImages (name ∷ behind) set) came mid new = stops (ImageIn name set) (ReadImages behind) (λ v. v) result stop mid new is image in
+    g.on came new (rw split all)

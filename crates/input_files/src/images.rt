@@ -87,10 +87,7 @@ pub fn read_images<F: Files>(
     let mut set = ImageSet::new(alloc, shape);
     let mut total = 0;
     for name in names {
-        match read_image(alloc, files, &mut set, total, name.as_str()) {
-            Ok(sum) => total = sum,
-            Err(stop) => return Err(stop),
-        }
+        total = read_image(alloc, files, &mut set, total, name.as_str())?;
     }
     Ok(set)
 }

@@ -20,5 +20,6 @@ pub mod Begun
 pub mod Images
 pub mod LineDigits
 pub mod Entries
+pub mod Faults
 pub mod ImageTakes
 pub mod ReadAgain

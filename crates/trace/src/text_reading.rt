@@ -192,15 +192,10 @@ fn read_rest(alloc: Global, world: &World, text: &[u8]) -> Result<Vec<Entry>, Tr
         ≡ text_of_lines (head_lines world.now ++ image_lines world.now.image) ++ text.now → IfErr result (TellsLine whole) }
 {
     let line = 5 + (world.image().len() as u64 + 31) / 32;
-    let (entries, text) = match read_entries(alloc, line, text) {
-        Ok(found) => found,
-        Err(fault) => return Err(fault),
-    };
+    let (entries, text) = read_entries(alloc, line, text)?;
     let count = entries.len() as u64;
-    match read_end(line + count, count, text) {
-        Ok(()) => Ok(entries),
-        Err(fault) => Err(fault),
-    }
+    read_end(line + count, count, text)?;
+    Ok(entries)
 }
 
 // The world whose head and image stand at the front, and the text behind them.
@@ -232,14 +227,9 @@ pub fn read(alloc: Global, bytes: &[u8]) -> Result<Chronicle, TraceFault>
     ensures again { (kept : Recorded) → IsTrace bytes.now kept
         → MatchResult result (λ found. found ≡ kept) (λ fault. fault ≡ TraceFault.Memory) }
 {
-    let (world, text) = match read_world(alloc, bytes) {
-        Ok(found) => found,
-        Err(fault) => return Err(fault),
-    };
-    match read_rest(alloc, &world, text) {
-        Ok(entries) => Ok(Chronicle::new(world, entries)),
-        Err(fault) => Err(fault),
-    }
+    let (world, text) = read_world(alloc, bytes)?;
+    let entries = read_rest(alloc, &world, text)?;
+    Ok(Chronicle::new(world, entries))
 }
 
 /// At most one line is the first at which a text leaves the grammar.

@@ -1,5 +1,5 @@
 use Rattle.std.proofs.Common.{take, ◌∙◌}
-use Rattle.command_plans.proofs.Writings.{on_err, more_told, front_told}
+use Rattle.command_plans.proofs.Writings.{on_err, more_told, front_told, left_to_tell}
 use Rattle.command_plans.proofs.writing.put_parts.Goals as goal
 
 pub telling-preserved : goal.telling-preserved
@@ -13,3 +13,8 @@ pub returns-in_err-put_all-clause-err : goal.returns-in_err-put_all-clause-err
 returns-in_err-put_all-clause-err g c =
     on_err c.from_residual.result (front_told (g.P.Parts.told c.args.parts.now) (g.P.Parts.told c.telling.parts) (g.P.Parts.told c.next-count.new.self) (take c.next-count.result c.next-count.new.into) (g.K.Sink.held c.args.sink.now)
     (g.K.Sink.held c.telling.sink) (g.K.Sink.held c.put_all.new.sink) c.telling.invariant.told c.next-count.ensures.front c.in_err-put_all.ensures.err)
+
+pub returns-in_err-put_all-clause-left : goal.returns-in_err-put_all-clause-left
+returns-in_err-put_all-clause-left g c =
+    left_to_tell (g.P.Parts.told c.args.parts.now) (g.P.Parts.told c.telling.parts) (g.P.Parts.told c.next-count.new.self) (take c.next-count.result c.next-count.new.into) (g.K.Sink.held c.args.sink.now) (g.K.Sink.held c.telling.sink)
+    c.telling.invariant.told c.next-count.ensures.front

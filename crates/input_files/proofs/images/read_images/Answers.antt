@@ -1,19 +1,18 @@
 use Rattle.std.proofs.Common.{◌≡◌, ℕ, suc, ◌+◌, List, ◌∷◌, drop, sym, ap, ◌∙◌, arith}
 use Rattle.std.proofs.Math.Seq.{drop-cons}
 use Rattle.image_set.specs.Match.{no_images}
-use Rattle.command_plans.specs.Answered.{reason_of}
 use Rattle.input_files.proofs.ImageSteps.{one_more, image_stops}
 use Rattle.input_files.proofs.images.read_images.Goals as goal
 
-pub returns-in-Err-clause-reads : goal.returns-in-Err-clause-reads
-returns-in-Err-clause-reads g c =
+pub returns-in_err-total-clause-reads : goal.returns-in_err-total-clause-reads
+returns-in_err-total-clause-reads g c =
     let i = c.loop-name.name-index in
     let names = c.args.names.now in
     let behind = drop (suc i) names in
     let split : drop i names ≡ c.as_str.result.now ∷ behind =
     drop-cons names i c.name-item.result c.loop-name-test.true ∙ ap (λ (n : List ℕ). n ∷ behind) (sym c.name-item.is ∙ sym c.as_str.ensures) in
-    image_stops (drop i names) behind names c.as_str.result.now c.loop-name.set (no_images c.args.shape) (reason_of c.in-Err.stop) (g.F.Files.shows c.args.files.now) (g.F.Files.shows c.loop-name.files) (g.F.Files.shows c.read_image.new.files)
-    c.loop-name.invariant.goes split c.in-Err.ensures.reads
+    image_stops (drop i names) behind names c.as_str.result.now c.loop-name.set (no_images c.args.shape) c.from_residual.result c.in_err-total.field-0.0 (g.F.Files.shows c.args.files.now) (g.F.Files.shows c.loop-name.files) (g.F.Files.shows c.read_image.new.files)
+    c.loop-name.invariant.goes split c.from_residual.ensures.1 c.in_err-total.ensures.reads
 
 pub loop-name-preserved : goal.loop-name-preserved
 loop-name-preserved g c =
@@ -27,9 +26,9 @@ loop-name-preserved g c =
     ∙ ap (λ (k : ℕ). c.as_str.result.now ∷ drop k names) (sym next) in
     record {
       goes = one_more (drop i names) behind names c.as_str.result.now c.loop-name.set c.read_image.new.set (no_images c.args.shape) (g.F.Files.shows c.args.files.now) (g.F.Files.shows c.loop-name.files) (g.F.Files.shows c.read_image.new.files)
-          c.loop-name.invariant.goes split c.in-Ok.ensures.reads;
-      shape = c.in-Ok.ensures.shape ∙ c.loop-name.invariant.shape;
-      count = omega (arith, c.in-Ok.ensures.count, c.loop-name.invariant.count);
-      sum = c.in-Ok.ensures.sum;
-      room = c.in-Ok.ensures.room;
+          c.loop-name.invariant.goes split c.in_ok-total.ensures.reads;
+      shape = c.in_ok-total.ensures.shape ∙ c.loop-name.invariant.shape;
+      count = omega (arith, c.in_ok-total.ensures.count, c.loop-name.invariant.count);
+      sum = c.in_ok-total.ensures.sum;
+      room = c.in_ok-total.ensures.room;
     }
