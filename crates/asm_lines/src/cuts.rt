@@ -6,6 +6,8 @@ ghost use Rattle.std.specs.List.{list_all, position, position_or_len};
 ghost use Rattle.asm_lines.specs.Cuts as spec;
 ghost use Rattle.asm_lines.specs.Cuts.{is_text_byte, front_to, has, trim_front, trim_end, line_of, worded, labelled, parse_line};
 
+use text_readers::first_place;
+
 /// A statement: its first word, and the text of its operands, with no blanks round it.
 #[derive(Clone, Copy, Debug)]
 pub struct RawStatement<'a> {
@@ -18,12 +20,6 @@ pub struct RawStatement<'a> {
 pub struct ParsedLine<'a> {
     pub label: Option<&'a [u8]>,
     pub statement: Option<RawStatement<'a>>,
-}
-
-pub fn first_place(byte: u8, text: &[u8]) -> Option<usize>
-    ensures { result ≡ position (λ b. b == byte) text.now }
-{
-    text.iter().position(|b| *b == byte)
 }
 
 fn is_blank(byte: u8) -> bool

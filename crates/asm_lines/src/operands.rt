@@ -7,10 +7,10 @@ ghost use Rattle.asm_lines.specs.Cuts.{has, front_to, behind};
 ghost use Rattle.asm_lines.specs.Operands as spec;
 ghost use Rattle.asm_lines.specs.Operands.{operand_parts, operands_of, AreParts, register_operand, number_operand, indexed_operand, label_operand, value_operand, said};
 
-use crate::cuts::{begins_here, first_place, is_symbol, trimmed};
+use crate::cuts::{begins_here, is_symbol, trimmed};
 use crate::kinds::{Kind, both};
 use crate::numbers::{register_of, spelled};
-use text_readers::cut_at;
+use text_readers::{cut_at, first_place};
 
 /// The operands of a statement that has at most three, or the news that it has more.
 #[derive(Clone, Copy, Debug)]

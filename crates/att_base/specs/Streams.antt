@@ -1,6 +1,8 @@
 -- What a stream tells of its content, and what a call does to it.
 -- A stream that doesn't tell has `None`. A clause equates the old and the new content, so it holds there too.
-use Rattle.std.specs.Prelude.{◌≡◌, ℕ, ◌+◌, ◌<◌, ◌≤◌, List, [], ◌++◌, length, take, drop, Option, None, Some}
+use Rattle.std.specs.Prelude.{◌≡◌, ℕ, ◌+◌, ◌<◌, ◌≤◌, List, [], ◌++◌, length, take, drop, Option, None, Some, Result, Ok, Err, OnOk, OnErr}
+use Rattle.att_base.specs.declared.faults.Failed.{Failed}
+use Rattle.att_base.specs.Faults.{FaultCountRose}
 
 -- a piece, and then what is left
 abbrev pub put_before : List ℕ → Option (List ℕ) → Option (List ℕ)
@@ -27,6 +29,17 @@ pub record AppendsFront (old new : Option (List ℕ)) (piece : List ℕ) : Type 
   pub count : ℕ
   pub within : count ≤ length piece
   pub grown : new ≡ put_after old (take count piece)
+
+-- the count of faults behind one call of a stream: risen where the call failed, and else as it was
+abbrev pub CountsCall : {V : Type 0} → Result V Failed → ℕ → ℕ → Type 0
+CountsCall (Ok v) before now = now ≡ before
+CountsCall (Err fault) before now = FaultCountRose before now
+
+-- what comes of appending this piece: the whole of it is appended, or the call failed and a front of it is
+pub record Puts {V : Type 0} (result : Result V Failed) (piece : List ℕ) (held_old held_new : Option (List ℕ)) (faults_old faults_new : ℕ) : Type 0 where
+  pub ok : OnOk result (held_new ≡ put_after held_old piece)
+  pub err : OnErr result (AppendsFront held_old held_new piece)
+  pub counted : CountsCall result faults_old faults_new
 
 -- all that was left has been taken, where that is told
 abbrev pub TakesAll : Option (List ℕ) → Option (List ℕ) → List ℕ → Type 0

@@ -1,7 +1,7 @@
 // A source and a sink in memory, which move a few bytes a call and fail at chosen calls.
 ghost use Rattle.std.specs.Prelude.{◌≡◌, ◌+◌, ◌-◌, ◌^◌, ◌<◌, ◌≤◌, ◌⊎◌, ◌↔◌, min, [], ◌++◌, length, take, drop, Some, Contains, IsTrue, IsErr, IfOk, OnOk, OnErr};
-ghost use Rattle.att_base.specs.Faults.{one_more, FaultCountRose};
-ghost use Rattle.att_base.specs.Streams.{put_before, put_after, IsDrained};
+ghost use Rattle.att_base.specs.Faults.{one_more};
+ghost use Rattle.att_base.specs.Streams.{put_before, put_after, CountsCall, IsDrained};
 ghost use Rattle.att_base.specs.Fakes.{new_source, source_after, source_failed, new_sink, sink_after, sink_failed};
 
 use crate::calls::Calls;
@@ -81,9 +81,7 @@ impl Source for MemSource {
         ensures bytes { IfOk result (λ n. Some self.old.left ≡ put_before (take n into.new) (Some self.new.left)) }
         ensures end { IfOk result (λ n. n ≡ 0 → 0 < length into.new → IsDrained (Some self.old.left)) }
         ensures err { OnErr result (Some self.new.left ≡ Some self.old.left) }
-        ensures later { self.old.faults ≤ self.new.faults }
-        ensures cause { OnErr result (FaultCountRose self.old.faults self.new.faults) }
-        ensures quiet { OnOk result (self.new.faults ≡ self.old.faults) }
+        ensures counted { CountsCall result self.old.faults self.new.faults }
         ensures listed { IsErr result ↔ Contains self.old.fails self.old.next }
         ensures count { IfOk result (λ n. n ≡ min self.old.step (min (length into.new) (length self.old.left))) }
         ensures moved { IfOk result (λ n. self.new ≡ source_after self.old n) }
@@ -167,9 +165,7 @@ impl Sink for MemSink {
         ensures bytes { IfOk result (λ n. Some self.new.held ≡ put_after (Some self.old.held) (take n piece.now)) }
         ensures progress { IfOk result (λ n. 0 < length piece.now → 0 < n) }
         ensures err { OnErr result (Some self.new.held ≡ Some self.old.held) }
-        ensures later { self.old.faults ≤ self.new.faults }
-        ensures cause { OnErr result (FaultCountRose self.old.faults self.new.faults) }
-        ensures quiet { OnOk result (self.new.faults ≡ self.old.faults) }
+        ensures counted { CountsCall result self.old.faults self.new.faults }
         ensures refused { IsErr result ↔ (Contains self.old.fails self.old.next ⊎ (length self.old.held ≡ self.old.room)) }
         ensures count { IfOk result (λ n.
             n ≡ min self.old.step (min (length piece.now) (self.old.room - length self.old.held))) }

@@ -1,7 +1,6 @@
 // The real streams: a few lines over what std reads from and writes to.
 ghost use Rattle.std.specs.Prelude.{◌≡◌, ℕ, ◌<◌, ◌≤◌, length, take, IfOk, OnOk, OnErr};
-ghost use Rattle.att_base.specs.Faults.{FaultCountRose};
-ghost use Rattle.att_base.specs.Streams.{put_after, TellsAlike};
+ghost use Rattle.att_base.specs.Streams.{put_after, CountsCall, TellsAlike};
 
 use crate::faults::Failed;
 use crate::streams::{Sink, Source};
@@ -51,9 +50,7 @@ fn write_counted<W: Write>(inner: &mut W, faults: &mut u64, piece: &[u8]) -> Res
     ensures bytes { IfOk result (λ n. W.contents inner.new ≡ put_after (W.contents inner.old) (take n piece.now)) }
     ensures progress { IfOk result (λ n. 0 < length piece.now → 0 < n) }
     ensures err { OnErr result (W.contents inner.new ≡ W.contents inner.old) }
-    ensures later { faults.old ≤ faults.new }
-    ensures cause { OnErr result (FaultCountRose faults.old faults.new) }
-    ensures quiet { OnOk result (faults.new ≡ faults.old) }
+    ensures counted { CountsCall result faults.old faults.new }
 {
     match inner.write(piece) {
         Ok(count) if count > 0 || piece.is_empty() => Ok(count),

@@ -1,8 +1,7 @@
 // What is read and written piece by piece.
 ghost use Rattle.std.specs.Prelude.{◌≡◌, ℕ, ◌+◌, ◌^◌, ◌<◌, ◌≤◌, List, ◌++◌, length, take, Option, None, IfOk, OnOk, OnErr, IsErrOf};
-ghost use Rattle.att_base.specs.Faults.{FaultCountRose};
 ghost use Rattle.att_base.specs.Files.{CountsRead};
-ghost use Rattle.att_base.specs.Streams.{put_before, put_after, IsDrained, TakesAll, TakesTooMany, TakesFront, AppendsFront};
+ghost use Rattle.att_base.specs.Streams.{put_before, put_after, CountsCall, IsDrained, Puts, TakesAll, TakesTooMany, TakesFront};
 
 use crate::faults::{Failed, ReadFault};
 use std::alloc::{AllocError, Global};
@@ -22,9 +21,7 @@ pub trait Source {
         ensures bytes { IfOk result (λ n. left self.old ≡ put_before (take n into.new) (left self.new)) }
         ensures end { IfOk result (λ n. n ≡ 0 → 0 < length into.new → IsDrained (left self.old)) }
         ensures err { OnErr result (left self.new ≡ left self.old) }
-        ensures later { faults self.old ≤ faults self.new }
-        ensures cause { OnErr result (FaultCountRose (faults self.old) (faults self.new)) }
-        ensures quiet { OnOk result (faults self.new ≡ faults self.old) };
+        ensures counted { CountsCall result (faults self.old) (faults self.new) };
 }
 
 /// Something that bytes are written to, as standard output.
@@ -42,18 +39,12 @@ pub trait Sink {
         ensures bytes { IfOk result (λ n. held self.new ≡ put_after (held self.old) (take n piece.now)) }
         ensures progress { IfOk result (λ n. 0 < length piece.now → 0 < n) }
         ensures err { OnErr result (held self.new ≡ held self.old) }
-        ensures later { faults self.old ≤ faults self.new }
-        ensures cause { OnErr result (FaultCountRose (faults self.old) (faults self.new)) }
-        ensures quiet { OnOk result (faults self.new ≡ faults self.old) };
+        ensures counted { CountsCall result (faults self.old) (faults self.new) };
 }
 
 /// Appends the whole piece. After `Failed` a front of it was appended.
 pub fn put_all<K: Sink>(sink: &mut K, piece: &[u8]) -> Result<(), Failed>
-    ensures ok { OnOk result (K.held sink.new ≡ put_after (K.held sink.old) piece.now) }
-    ensures err { OnErr result (AppendsFront (K.held sink.old) (K.held sink.new) piece.now) }
-    ensures later { K.faults sink.old ≤ K.faults sink.new }
-    ensures cause { OnErr result (FaultCountRose (K.faults sink.old) (K.faults sink.new)) }
-    ensures quiet { OnOk result (K.faults sink.new ≡ K.faults sink.old) }
+    ensures puts { Puts result piece.now (K.held sink.old) (K.held sink.new) (K.faults sink.old) (K.faults sink.new) }
 {
     let mut at = 0;
     'writing: while at < piece.len() {

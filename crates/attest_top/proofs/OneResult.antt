@@ -16,8 +16,8 @@ use Rattle.verifier.specs.declared.files.VerifierPlan.{VerifierPlan}
 use Rattle.verifier.specs.Files.{verifier_file}
 use Rattle.challenge.specs.Bytes.{challenge_in}
 use Rattle.image_set.specs.Match.{Known, no_images}
-use Rattle.input_files.specs.InputFiles.{checked_key, KeyIn, checked_challenge, ChallengeIn, checked_image, ImageIn, ReadImages}
-use Rattle.message_commands.specs.Plans.{written_challenge, challenge_plan, checked_verifier, VerifierIn, plan_shape, Knowledge, knows, KnowledgeIn, ReadNote, judgement, verify_plan}
+use Rattle.input_files.specs.InputFiles.{checked_key, KeyIn, checked_challenge, ChallengeIn, checked_image, ImageIn, ReadImages, image_shape}
+use Rattle.message_commands.specs.Plans.{written_challenge, challenge_plan, checked_verifier, VerifierIn, Knowledge, knows, KnowledgeIn, ReadNote, judgement, verify_plan}
 use Rattle.device_config.specs.declared.plans.AppPlan.{AppPlan}
 use Rattle.device_config.specs.declared.plans.DevicePlan.{DevicePlan}
 use Rattle.device_config.specs.Files.{device_file}
@@ -46,7 +46,7 @@ use Rattle.device_inputs.specs.declared.admitting.Admission.{Admission}
 use Rattle.device_inputs.specs.declared.setup.SetupFiles.{SetupFiles}
 use Rattle.device_inputs.specs.declared.setup.ScheduledFiles.{ScheduledFiles}
 use Rattle.device_inputs.specs.Admissions.{admissions, counters, served}
-use Rattle.device_inputs.specs.Setups.{device_shape, AdmissionsIn, NamedIn, SetupIn, ScheduledIn}
+use Rattle.device_inputs.specs.Setups.{AdmissionsIn, NamedIn, SetupIn, ScheduledIn}
 use Rattle.chronicle.specs.Worlds.{Recorded}
 use Rattle.trace.specs.Text.{trace_text}
 use Rattle.trace.specs.Printable.{IsPrintable}
@@ -114,11 +114,11 @@ one_images (name ∷ names) set held = one_then (ImageIn name set (Some held)) (
 
 -- what follows upon a key, and upon a challenge
 abbrev WithSet : VerifierPlan → List ℕ → Challenge → Contents → CommandStep Knowledge
-WithSet plan key expected held = Then (ReadImages plan.images (no_images (plan_shape plan)) (Some held)) (λ (set : Known). exactly (Ok (knows plan key expected set)))
+WithSet plan key expected held = Then (ReadImages plan.images (no_images (image_shape plan.geometry plan.ranges)) (Some held)) (λ (set : Known). exactly (Ok (knows plan key expected set)))
 
 one_set : (plan : VerifierPlan) (key : List ℕ) (expected : Challenge) (held : Contents) → HasOneResult (WithSet plan key expected held)
 one_set plan key expected held =
-    one_then (ReadImages plan.images (no_images (plan_shape plan)) (Some held)) (λ (set : Known). exactly (Ok (knows plan key expected set))) (one_images plan.images (no_images (plan_shape plan)) held) (λ set. one_exactly (Ok (knows plan key expected set)))
+    one_then (ReadImages plan.images (no_images (image_shape plan.geometry plan.ranges)) (Some held)) (λ (set : Known). exactly (Ok (knows plan key expected set))) (one_images plan.images (no_images (image_shape plan.geometry plan.ranges)) held) (λ set. one_exactly (Ok (knows plan key expected set)))
 
 abbrev WithKey : VerifierPlan → List ℕ → Contents → CommandStep Knowledge
 WithKey plan key held = Then (ChallengeIn key plan.challenge (Some held)) (λ (expected : Challenge). WithSet plan key expected held)
@@ -255,7 +255,7 @@ abbrev pub setup_with : DevicePlan → List ℕ → Placed → List Admission �
 setup_with plan key memory answers known = record { plan = plan; key = key; placed = memory; admissions = answers; images = known }
 
 abbrev pub WithAnswers : DevicePlan → List ℕ → Placed → List Admission → Option Contents → CommandStep SetupFiles
-WithAnswers plan key memory answers held = Then (ReadImages plan.images (no_images (device_shape plan)) held) (λ (known : Known). exactly (Ok (setup_with plan key memory answers known)))
+WithAnswers plan key memory answers held = Then (ReadImages plan.images (no_images (image_shape plan.geometry plan.ranges)) held) (λ (known : Known). exactly (Ok (setup_with plan key memory answers known)))
 
 abbrev pub WithImage : DevicePlan → List ℕ → Placed → Option Contents → CommandStep SetupFiles
 WithImage plan key memory held = Then (AdmissionsIn key plan.last plan.challenges held) (λ (answers : List Admission). WithAnswers plan key memory answers held)
@@ -269,7 +269,7 @@ one_named device plan held =
     one_then (KeyIn plan.key (Some held)) (λ (key : List ℕ). WithItsKey device plan key (Some held)) (one_key plan.key held)
     (λ key. one_then (PlacedIn device plan (Some held)) (λ (memory : Placed). WithImage plan key memory (Some held)) (one_placed device plan held)
     (λ memory. one_then (AdmissionsIn key plan.last plan.challenges (Some held)) (λ (answers : List Admission). WithAnswers plan key memory answers (Some held)) (one_admissions key plan.last plan.challenges held)
-    (λ answers. one_then (ReadImages plan.images (no_images (device_shape plan)) (Some held)) (λ (known : Known). exactly (Ok (setup_with plan key memory answers known))) (one_images plan.images (no_images (device_shape plan)) held)
+    (λ answers. one_then (ReadImages plan.images (no_images (image_shape plan.geometry plan.ranges)) (Some held)) (λ (known : Known). exactly (Ok (setup_with plan key memory answers known))) (one_images plan.images (no_images (image_shape plan.geometry plan.ranges)) held)
     (λ known. one_exactly {A = SetupFiles} (Ok (setup_with plan key memory answers known))))))
 
 abbrev pub scheduled_with : List Run → SetupFiles → ScheduledFiles
@@ -305,7 +305,7 @@ named_rise l device plan held asked setup is =
     let k = through (KeyIn plan.key held) (λ (key : List ℕ). WithItsKey device plan key held) asked setup is in
     let p = through (PlacedIn device plan held) (λ (image : Placed). WithImage plan k.value image held) k.behind setup k.follows in
     let a = through (AdmissionsIn k.value plan.last plan.challenges held) (λ (answers : List Admission). WithAnswers plan k.value p.value answers held) p.behind setup p.follows in
-    let i = through (ReadImages plan.images (no_images (device_shape plan)) held) (λ (known : Known). exactly (Ok (setup_with plan k.value p.value a.value known))) a.behind setup a.follows in
+    let i = through (ReadImages plan.images (no_images (image_shape plan.geometry plan.ranges)) held) (λ (known : Known). exactly (Ok (setup_with plan k.value p.value a.value known))) a.behind setup a.follows in
     let known = known_gave {A = SetupFiles} (Ok (setup_with plan k.value p.value a.value i.value)) i.behind setup i.follows in
     let same : setup_with plan k.value p.value a.value i.value ≡ setup = cc in
     let rising : RisesFrom (served a.value) = answers_rise l k.value plan.last plan.challenges held a.before a.value a.is in

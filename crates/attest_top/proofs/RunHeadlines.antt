@@ -15,7 +15,7 @@ use Rattle.command_plans.specs.declared.output.Ending.TheVariants as endings
 use Rattle.command_plans.specs.Steps.{exactly}
 use Rattle.command_plans.specs.Written.{Written}
 use Rattle.image_set.specs.Match.{Known, no_images}
-use Rattle.input_files.specs.InputFiles.{KeyIn, ReadImages}
+use Rattle.input_files.specs.InputFiles.{KeyIn, ReadImages, image_shape}
 use Rattle.loader.specs.declared.placed.Placed.{Placed}
 use Rattle.schedule_text.specs.declared.reading.Run.{Run}
 use Rattle.device_config.specs.declared.plans.DevicePlan.{DevicePlan}
@@ -28,7 +28,7 @@ use Rattle.device_inputs.specs.declared.admitting.Admission.{Admission}
 use Rattle.device_inputs.specs.declared.setup.SetupFiles.{SetupFiles}
 use Rattle.device_inputs.specs.declared.setup.ScheduledFiles.{ScheduledFiles}
 use Rattle.device_inputs.specs.Inputs.{DeviceIn, ScheduleIn, PlacedIn}
-use Rattle.device_inputs.specs.Setups.{device_shape, AdmissionsIn, NamedIn, SetupIn, ScheduledIn}
+use Rattle.device_inputs.specs.Setups.{AdmissionsIn, NamedIn, SetupIn, ScheduledIn}
 use Rattle.device_commands.specs.declared.ends.ChallengeEnd.{ChallengeEnd}
 use Rattle.device_commands.specs.ChallengeEnds.{challenge_ends}
 use Rattle.device_commands.specs.RunWritten.{names_of, run_files, is_cut, ending_of_run, written_of, IsFinishedRun}
@@ -68,7 +68,7 @@ named_plan device plan held asked setup is =
     let k = through (KeyIn plan.key held) (λ (key : List ℕ). WithItsKey device plan key held) asked setup is in
     let p = through (PlacedIn device plan held) (λ (image : Placed). WithImage plan k.value image held) k.behind setup k.follows in
     let a = through (AdmissionsIn k.value plan.last plan.challenges held) (λ (answers : List Admission). WithAnswers plan k.value p.value answers held) p.behind setup p.follows in
-    let i = through (ReadImages plan.images (no_images (device_shape plan)) held) (λ (known : Known). exactly (Ok (setup_with plan k.value p.value a.value known))) a.behind setup a.follows in
+    let i = through (ReadImages plan.images (no_images (image_shape plan.geometry plan.ranges)) held) (λ (known : Known). exactly (Ok (setup_with plan k.value p.value a.value known))) a.behind setup a.follows in
     let known = known_gave {A = SetupFiles} (Ok (setup_with plan k.value p.value a.value i.value)) i.behind setup i.follows in
     let same : setup_with plan k.value p.value a.value i.value ≡ setup = cc in
     ap (λ (s : SetupFiles). s.plan) same

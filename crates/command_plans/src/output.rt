@@ -1,8 +1,7 @@
 //! What a command has to write, before anything is written.
 
 ghost use Rattle.std.specs.Prelude.{◌≡◌, ◌≤◌, ℕ, List, [], ◌++◌, All, IfOk, OnOk, OnErr, string_bytes};
-ghost use Rattle.att_base.specs.Faults.{FaultCountRose};
-ghost use Rattle.att_base.specs.Streams.{put_after, AppendsFront};
+ghost use Rattle.att_base.specs.Streams.{Puts};
 ghost use Rattle.att_base.specs.Files.{IsName, put_under, PutsFront, CountsWrite};
 ghost use Rattle.command_plans.specs.Lines.{ending_line};
 ghost use Rattle.command_plans.specs.Written.{joined};
@@ -175,13 +174,9 @@ impl<P: Parts + Drop, B: FileParts + Drop> Output<P, B> {
     /// Appends all that goes to standard output, and leaves nothing of it. After `Failed` a front of it was appended, and an
     /// end of it is left. It takes no memory.
     pub fn put_out<K: Sink>(&mut self, out: &mut K) -> Result<(), Failed>
-        ensures ok { OnOk result (K.held out.new ≡ put_after (K.held out.old) self.old.out) }
-        ensures err { OnErr result (AppendsFront (K.held out.old) (K.held out.new) self.old.out) }
+        ensures puts { Puts result self.old.out (K.held out.old) (K.held out.new) (K.faults out.old) (K.faults out.new) }
         ensures spent { OnOk result (self.new.out ≡ []) }
         ensures left { (front : List ℕ) × (self.old.out ≡ front ++ self.new.out) }
-        ensures cause { OnErr result (FaultCountRose (K.faults out.old) (K.faults out.new)) }
-        ensures quiet { OnOk result (K.faults out.new ≡ K.faults out.old) }
-        ensures later { K.faults out.old ≤ K.faults out.new }
         ensures files { self.new.files ≡ self.old.files }
         ensures ending { self.new.ending ≡ self.old.ending }
     {

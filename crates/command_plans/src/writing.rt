@@ -1,8 +1,7 @@
 //! Writing what was prepared: standard output and files, in parts.
 
 ghost use Rattle.std.specs.Prelude.{◌≡◌, ◌≤◌, ℕ, List, [], ◌++◌, OnOk, OnErr};
-ghost use Rattle.att_base.specs.Faults.{FaultCountRose};
-ghost use Rattle.att_base.specs.Streams.{put_after, AppendsFront};
+ghost use Rattle.att_base.specs.Streams.{Puts};
 ghost use Rattle.att_base.specs.Files.{IsName, put_under, PutsFront, CountsWrite};
 ghost use Rattle.command_plans.specs.Written.{joined, rest_bytes};
 
@@ -16,13 +15,9 @@ const PIECE_LEN: usize = 4096;
 /// Appends all that the parts tell, piece by piece, and leaves nothing to tell. After `Failed` a front of it was appended,
 /// and what is still to be told is an end of it. It takes no memory.
 pub fn put_parts<K: Sink, P: Parts>(sink: &mut K, parts: &mut P) -> Result<(), Failed>
-    ensures ok { OnOk result (K.held sink.new ≡ put_after (K.held sink.old) (P.told parts.old)) }
-    ensures err { OnErr result (AppendsFront (K.held sink.old) (K.held sink.new) (P.told parts.old)) }
+    ensures puts { Puts result (P.told parts.old) (K.held sink.old) (K.held sink.new) (K.faults sink.old) (K.faults sink.new) }
     ensures spent { OnOk result (P.told parts.new ≡ []) }
     ensures left { (front : List ℕ) × (P.told parts.old ≡ front ++ P.told parts.new) }
-    ensures cause { OnErr result (FaultCountRose (K.faults sink.old) (K.faults sink.new)) }
-    ensures quiet { OnOk result (K.faults sink.new ≡ K.faults sink.old) }
-    ensures later { K.faults sink.old ≤ K.faults sink.new }
 {
     let mut piece = [0; PIECE_LEN];
     'telling: loop {
@@ -36,13 +31,9 @@ pub fn put_parts<K: Sink, P: Parts>(sink: &mut K, parts: &mut P) -> Result<(), F
 
 /// Appends all that the rest tells, where there is one, and leaves nothing of it, or after `Failed` an end.
 pub fn put_rest<K: Sink, P: Parts>(sink: &mut K, rest: &mut Option<P>) -> Result<(), Failed>
-    ensures ok { OnOk result (K.held sink.new ≡ put_after (K.held sink.old) (rest_bytes P.told rest.old)) }
-    ensures err { OnErr result (AppendsFront (K.held sink.old) (K.held sink.new) (rest_bytes P.told rest.old)) }
+    ensures puts { Puts result (rest_bytes P.told rest.old) (K.held sink.old) (K.held sink.new) (K.faults sink.old) (K.faults sink.new) }
     ensures spent { OnOk result (rest_bytes P.told rest.new ≡ []) }
     ensures left { (front : List ℕ) × (rest_bytes P.told rest.old ≡ front ++ rest_bytes P.told rest.new) }
-    ensures cause { OnErr result (FaultCountRose (K.faults sink.old) (K.faults sink.new)) }
-    ensures quiet { OnOk result (K.faults sink.new ≡ K.faults sink.old) }
-    ensures later { K.faults sink.old ≤ K.faults sink.new }
 {
     match rest {
         None => Ok(()),

@@ -10,19 +10,10 @@ use crate::ends::{ChallengeEnd, ReleaseEnd};
 use app_thread::{Ending, RunEnd};
 use device::AppEnd;
 use image_set::ImageSet;
-use itoa::Buffer;
 use report::Report;
 use std::alloc::AllocError;
-use text_readers::word_digits;
+use text_readers::{put_number, word_digits};
 use verifier::Verdict;
-
-/// A number in decimal digits.
-pub fn put_number(out: &mut Vec<u8>, number: u64) -> Result<(), AllocError>
-    ensures { OnOk result (out.new.items ≡ out.old.items ++ decimal number) }
-{
-    let mut buffer = Buffer::new();
-    out.extend_from_slice(buffer.format(number).as_bytes())
-}
 
 // `WORD NUMBER `, the front of a line.
 fn put_front(out: &mut Vec<u8>, word: &[u8], number: u64) -> Result<(), AllocError>

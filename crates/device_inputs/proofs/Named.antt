@@ -8,19 +8,19 @@ use Rattle.device_config.specs.declared.plans.DevicePlan.{DevicePlan}
 use Rattle.command_plans.specs.Steps.{Reason, CommandStep, exactly, Then}
 use Rattle.command_plans.specs.Answered.{ReadsBy}
 use Rattle.command_plans.proofs.Binds.{goes_on, then_known}
-use Rattle.input_files.specs.InputFiles.{KeyIn, ReadImages}
+use Rattle.input_files.specs.InputFiles.{KeyIn, ReadImages, image_shape}
 use Rattle.device_inputs.specs.declared.admitting.Admission.{Admission}
 use Rattle.device_inputs.specs.declared.setup.SetupFiles.{SetupFiles}
 use Rattle.device_inputs.specs.declared.setup.ScheduledFiles.{ScheduledFiles}
 use Rattle.device_inputs.specs.Inputs.{DeviceIn, ScheduleIn, PlacedIn}
-use Rattle.device_inputs.specs.Setups.{device_shape, AdmissionsIn, NamedIn, ScheduledIn}
+use Rattle.device_inputs.specs.Setups.{AdmissionsIn, NamedIn, ScheduledIn}
 
 abbrev pub setup_of : DevicePlan → List ℕ → Placed → List Admission → Known → SetupFiles
 setup_of plan key image answers known = record { plan = plan; key = key; placed = image; admissions = answers; images = known }
 
 -- after each read the others
 abbrev pub images_then : DevicePlan → List ℕ → Placed → List Admission → Option Contents → CommandStep SetupFiles
-images_then plan key image answers files = Then (ReadImages plan.images (no_images (device_shape plan)) files) (λ known. exactly (Ok (setup_of plan key image answers known)))
+images_then plan key image answers files = Then (ReadImages plan.images (no_images (image_shape plan.geometry plan.ranges)) files) (λ known. exactly (Ok (setup_of plan key image answers known)))
 
 abbrev pub admissions_then : DevicePlan → List ℕ → Placed → Option Contents → CommandStep SetupFiles
 admissions_then plan key image files = Then (AdmissionsIn key plan.last plan.challenges files) (λ answers. images_then plan key image answers files)
@@ -42,10 +42,10 @@ pub behind_admissions : (plan : DevicePlan) (key : List ℕ) (image : Placed) (a
     → ReadsBy (AdmissionsIn key plan.last plan.challenges) (Ok answers) old mid → ReadsBy (images_then plan key image answers) came mid new → ReadsBy (admissions_then plan key image) came old new
 behind_admissions plan key image answers came old mid new read then = goes_on (AdmissionsIn key plan.last plan.challenges) (images_then plan key image) answers came old mid new read then
 
-pub with_images : (plan : DevicePlan) (key : List ℕ) (image : Placed) (answers : List Admission) (known : Known) (old new : FilesView) → ReadsBy (ReadImages plan.images (no_images (device_shape plan))) (Ok known) old new
+pub with_images : (plan : DevicePlan) (key : List ℕ) (image : Placed) (answers : List Admission) (known : Known) (old new : FilesView) → ReadsBy (ReadImages plan.images (no_images (image_shape plan.geometry plan.ranges))) (Ok known) old new
     → ReadsBy (images_then plan key image answers) (Ok (setup_of plan key image answers known)) old new
 with_images plan key image answers known old new read =
-    then_known {V = SetupFiles} (ReadImages plan.images (no_images (device_shape plan))) (λ (set : Known). Ok (setup_of plan key image answers set)) known (λ s. s) (Ok (setup_of plan key image answers known)) old new read refl
+    then_known {V = SetupFiles} (ReadImages plan.images (no_images (image_shape plan.geometry plan.ranges))) (λ (set : Known). Ok (setup_of plan key image answers set)) known (λ s. s) (Ok (setup_of plan key image answers known)) old new read refl
 
 -- ---- with a schedule
 

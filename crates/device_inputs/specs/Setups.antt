@@ -4,7 +4,6 @@ use Rattle.std.specs.List.Sorted.{IsStrictlyIncreasing}
 use Rattle.att_base.specs.Files.{Contents}
 use Rattle.history.specs.Layout.{Setting, byte_count}
 use Rattle.chronicle.specs.Settings.{setting_of}
-use Rattle.chronicle.specs.declared.worlds.Shape.{Shape}
 use Rattle.challenge.specs.Challenges.{IsChallenge}
 use Rattle.loader.specs.Placing.{is_entry}
 use Rattle.image_set.specs.Match.{no_images}
@@ -13,16 +12,12 @@ use Rattle.device_config.specs.declared.plans.DevicePlan.{DevicePlan}
 use Rattle.device_config.specs.Plans.{IsDevicePlan}
 use Rattle.schedule_text.specs.Schedules.{IsSchedule}
 use Rattle.command_plans.specs.Steps.{CommandStep, exactly, ◌>>=◌}
-use Rattle.input_files.specs.InputFiles.{KeyIn, ReadImages}
+use Rattle.input_files.specs.InputFiles.{KeyIn, ReadImages, image_shape}
 use Rattle.device_inputs.specs.declared.admitting.Admission.{Admission}
 use Rattle.device_inputs.specs.declared.setup.SetupFiles.{SetupFiles}
 use Rattle.device_inputs.specs.declared.setup.ScheduledFiles.{ScheduledFiles}
 use Rattle.device_inputs.specs.Admissions.{admissions, served, counters}
 use Rattle.device_inputs.specs.Inputs.{DeviceIn, ScheduleIn, PlacedIn, ChallengeFilesIn}
-
--- where the attested blocks lie
-abbrev pub device_shape : DevicePlan → Shape
-device_shape plan = record { base = plan.geometry.base; size = plan.geometry.size; ranges = plan.ranges }
 
 -- the memory that such a device begins with, where this is its image
 abbrev pub device_setting : DevicePlan → List ℕ → Setting
@@ -41,7 +36,7 @@ NamedIn device plan files = do
   key ← KeyIn plan.key files
   image ← PlacedIn device plan files
   answers ← AdmissionsIn key plan.last plan.challenges files
-  known ← ReadImages plan.images (no_images (device_shape plan)) files
+  known ← ReadImages plan.images (no_images (image_shape plan.geometry plan.ranges)) files
   exactly (Ok (record { plan = plan; key = key; placed = image; admissions = answers; images = known }))
 
 -- a device file, and then the files that it names
@@ -69,7 +64,7 @@ pub record IsSetupFiles (files : SetupFiles) : Type 0 where
   pub few : length files.admissions ≤ 64
   pub valid : All IsChallenge (served files.admissions)
   pub rising : IsStrictlyIncreasing (files.plan.last ∷ counters (served files.admissions))
-  pub shape : files.images.shape ≡ device_shape files.plan
+  pub shape : files.images.shape ≡ image_shape files.plan.geometry files.plan.ranges
 
 -- and the schedule is one for its applications
 pub record IsScheduledFiles (files : ScheduledFiles) : Type 0 where

@@ -6,10 +6,8 @@ ghost use Rattle.command_plans.specs.Answered.{Gives, Reads};
 ghost use Rattle.device_config.specs.Files.{device_file};
 ghost use Rattle.device_config.specs.Plans.{IsDevicePlan};
 ghost use Rattle.device_inputs.specs.Inputs.{DeviceIn, checked_device};
-ghost use Rattle.device_inputs.specs.Setups.{device_shape};
 
 use att_base::{DeviceFault, Files};
-use chronicle::Shape;
 use command_plans::{INPUT_LIMIT, Stop, bad_line, read_file};
 use device_config::DevicePlan;
 use std::alloc::Global;
@@ -37,15 +35,4 @@ pub fn read_device<F: Files>(alloc: Global, files: &mut F, name: &str) -> Result
 {
     let text = read_file(alloc, files, name, INPUT_LIMIT)?;
     checked_device(alloc, name, &text)
-}
-
-/// Where the attested blocks of a device lie.
-pub fn device_shape(plan: &DevicePlan) -> Shape
-    ensures { result ≡ device_shape plan.now }
-{
-    Shape {
-        base: plan.geometry.base(),
-        size: plan.geometry.size(),
-        ranges: plan.ranges,
-    }
 }

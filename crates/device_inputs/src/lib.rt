@@ -17,7 +17,7 @@ mod worked;
 pub use admitting::{Admission, admit_all};
 pub use applications::{read_app_files, read_placed};
 pub use challenges::{read_admissions, read_challenge_files};
-pub use device::{device_shape, read_device};
+pub use device::read_device;
 pub use laws::served_in_order;
 pub use schedules::read_schedule;
 pub use setup::{ScheduledFiles, SetupFiles, read_named, read_scheduled, read_setup};

@@ -9,13 +9,13 @@ ghost use Rattle.device_inputs.specs.Setups.{IsScheduledFiles, IsSetupFiles, Nam
 use crate::admitting::Admission;
 use crate::applications::read_placed;
 use crate::challenges::read_admissions;
-use crate::device::{device_shape, read_device};
+use crate::device::read_device;
 use crate::schedules::read_schedule;
 use att_base::Files;
 use command_plans::Stop;
 use device_config::DevicePlan;
 use image_set::ImageSet;
-use input_files::{read_images, read_key};
+use input_files::{image_shape, read_images, read_key};
 use listed::{Bytes, Items};
 use loader::Placed;
 use schedule_text::Schedule;
@@ -62,7 +62,8 @@ pub fn read_named<F: Files>(
     let key = read_key(alloc, files, plan.key.as_str())?;
     let placed = read_placed(alloc, files, device, &plan)?;
     let admissions = read_admissions(alloc, files, &key, plan.last, plan.challenges.as_slice())?;
-    let images = read_images(alloc, files, device_shape(&plan), plan.images.as_slice())?;
+    let shape = image_shape(&plan.geometry, plan.ranges);
+    let images = read_images(alloc, files, shape, plan.images.as_slice())?;
     let key = Bytes::from_vec(key);
     Ok(SetupFiles {
         plan,

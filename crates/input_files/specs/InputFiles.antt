@@ -2,6 +2,9 @@
 use Rattle.std.specs.Prelude.{ℕ, ◌+◌, ◌&&◌, not, ◌==◌, nat_le, nat_lt, if◌then◌else◌, List, [], ◌∷◌, length, codes, Option, Result, Ok, Err}
 use Rattle.std.specs.List.{sum_by}
 use Rattle.att_base.specs.Files.{Contents}
+use Rattle.history.specs.declared.ranges.Range.{Range}
+use Rattle.history.specs.Layout.{Layout}
+use Rattle.chronicle.specs.declared.worlds.Shape.{Shape}
 use Rattle.challenge.specs.declared.Challenge.{Challenge}
 use Rattle.challenge.specs.declared.faults.ChallengeFault.{ChallengeFault}
 use Rattle.challenge.specs.declared.faults.ChallengeFault.TheVariants.{Malformed, BadMac}
@@ -32,6 +35,10 @@ unfoldable pub ChallengeIn : List ℕ → List ℕ → Option Contents → Comma
 ChallengeIn key name files = do
   bytes ← ReadFile input_limit name files
   exactly (checked_challenge name (challenge_in key bytes))
+
+-- the shape of the images that a file of a device or of a verifier names: where its attested blocks lie
+abbrev pub image_shape : Layout → List Range → Shape
+image_shape layout ranges = record { base = layout.base; size = layout.size; ranges = ranges }
 
 -- the most bytes that all images have together: 64 MiB
 abbrev pub images_limit : ℕ

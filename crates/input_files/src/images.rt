@@ -4,13 +4,15 @@ ghost use Rattle.std.specs.Prelude.{◌≡◌, ◌+◌, ◌<◌, ◌≤◌, All,
 ghost use Rattle.att_base.specs.Files.{IsName};
 ghost use Rattle.image_set.specs.Match.{no_images, with_image};
 ghost use Rattle.command_plans.specs.Answered.{Gives, Reads};
-ghost use Rattle.input_files.specs.InputFiles.{ImageIn, ReadImages, checked_image, total_bytes};
+ghost use Rattle.input_files.specs.InputFiles.{ImageIn, ReadImages, checked_image, image_shape, total_bytes};
 
 use att_base::Files;
+use block_memory::Geometry;
 use chronicle::Shape;
 use command_plans::{INPUT_LIMIT, Stop, bad_line, read_file};
 use image_set::{ImageFault, ImageSet};
 use listed::Text;
+use lock_plan::Ranges;
 use std::alloc::Global;
 
 /// The most bytes that all images have together: 64 MiB.
@@ -69,6 +71,17 @@ fn read_image<F: Files>(
     match add_image(alloc, set, total, name, bytes) {
         Ok(()) => Ok(total + count),
         Err(stop) => Err(stop),
+    }
+}
+
+/// Where the attested blocks lie, which is the shape of the images that a file of a device or of a verifier names.
+pub fn image_shape(geometry: &Geometry, ranges: Ranges) -> Shape
+    ensures { result ≡ image_shape geometry.now ranges }
+{
+    Shape {
+        base: geometry.base(),
+        size: geometry.size(),
+        ranges,
     }
 }
 

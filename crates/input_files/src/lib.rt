@@ -9,5 +9,5 @@ mod images;
 mod keys;
 
 pub use challenges::read_challenge;
-pub use images::read_images;
+pub use images::{image_shape, read_images};
 pub use keys::read_key;

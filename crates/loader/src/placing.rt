@@ -9,17 +9,6 @@ use block_memory::{Geometry, Width, aligned};
 use elf32::{Elf, Part};
 use std::alloc::{AllocError, Global};
 
-/// Puts `put` into `bytes` from the index `at` on.
-fn write_at(bytes: &mut [u8], at: usize, put: &[u8])
-    requires { at + length put.now ≤ length bytes.old }
-    ensures count { length bytes.new ≡ length bytes.old }
-    ensures each { (k : ℕ) → slice_index bytes.new k
-        ≡ (if nat_le at k && nat_lt k (at + length put.now) then slice_index put.now (k - at)
-        else slice_index bytes.old k) }
-{
-    bytes[at..at + put.len()].copy_from_slice(put);
-}
-
 /// So many zeros.
 fn zeros(alloc: Global, count: u32) -> Result<Vec<u8>, AllocError>
     ensures items { IfOk result (λ v. v.items ≡ replicate count 0) }
@@ -128,7 +117,7 @@ impl Placing {
             return Err(PlaceFault::Memory);
         };
         let at = (span.addr - geometry.base()) as usize;
-        write_at(&mut self.image, at, bytes);
+        self.image[at..at + bytes.len()].copy_from_slice(bytes);
         Ok(())
     }
 

@@ -11,14 +11,14 @@ use Rattle.command_plans.specs.Answered.{ReadsBy}
 use Rattle.command_plans.specs.Reading.{input_limit, ReadFile}
 use Rattle.command_plans.specs.Written.{Written}
 use Rattle.command_plans.proofs.Binds.{goes_on, then_known}
-use Rattle.input_files.specs.InputFiles.{KeyIn, ChallengeIn, ReadImages}
-use Rattle.message_commands.specs.Plans.{VerifierIn, Knowledge, knows, KnowledgeIn, ReadNote, plan_shape, judgement, verify_plan}
+use Rattle.input_files.specs.InputFiles.{KeyIn, ChallengeIn, ReadImages, image_shape}
+use Rattle.message_commands.specs.Plans.{VerifierIn, Knowledge, knows, KnowledgeIn, ReadNote, judgement, verify_plan}
 
 -- ---- what a verifier knows
 
 -- after each read the others
 abbrev pub images_then : VerifierPlan → List ℕ → Challenge → Option Contents → CommandStep Knowledge
-images_then plan key expected files = Then (ReadImages plan.images (no_images (plan_shape plan)) files) (λ set. exactly (Ok (knows plan key expected set)))
+images_then plan key expected files = Then (ReadImages plan.images (no_images (image_shape plan.geometry plan.ranges)) files) (λ set. exactly (Ok (knows plan key expected set)))
 
 abbrev pub challenge_then : VerifierPlan → List ℕ → Option Contents → CommandStep Knowledge
 challenge_then plan key files = Then (ChallengeIn key plan.challenge files) (λ expected. images_then plan key expected files)
@@ -44,12 +44,12 @@ behind_challenge plan key expected came old mid new read then = goes_on (Challen
 abbrev pub with_shape : List ℕ → Challenge → ℕ → List Image → Shape → Knowledge
 with_shape key expected last images shape = record { standing = record { key = key; expected = expected; last = last; shape = shape }; images = images }
 
-pub knows_all : (plan : VerifierPlan) (key : List ℕ) (expected : Challenge) (set : Known) (old new : FilesView) → ReadsBy (ReadImages plan.images (no_images (plan_shape plan))) (Ok set) old new → set.shape ≡ plan_shape plan
+pub knows_all : (plan : VerifierPlan) (key : List ℕ) (expected : Challenge) (set : Known) (old new : FilesView) → ReadsBy (ReadImages plan.images (no_images (image_shape plan.geometry plan.ranges))) (Ok set) old new → set.shape ≡ image_shape plan.geometry plan.ranges
     → ReadsBy (images_then plan key expected) (Ok (with_shape key expected plan.last set.images set.shape)) old new
 knows_all plan key expected set old new read shape =
     let k : Knowledge = with_shape key expected plan.last set.images set.shape in
     let is : knows plan key expected set ≡ k = ap (with_shape key expected plan.last set.images) (sym shape) in
-    then_known {V = Knowledge} (ReadImages plan.images (no_images (plan_shape plan))) (λ found. Ok (knows plan key expected found)) set (λ x. x) (Ok k) old new read (ap (λ (x : Knowledge). Ok x) is)
+    then_known {V = Knowledge} (ReadImages plan.images (no_images (image_shape plan.geometry plan.ranges))) (λ found. Ok (knows plan key expected found)) set (λ x. x) (Ok k) old new read (ap (λ (x : Knowledge). Ok x) is)
 
 -- ---- what is judged
 

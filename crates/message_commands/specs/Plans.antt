@@ -2,7 +2,6 @@
 use Rattle.std.specs.Prelude.{ℕ, ◌≤◌, Bool, true, false, ◌&&◌, if◌then◌else◌, List, [], ◌∷◌, All, length, codes, Option, Some, None, Result, Ok, Err}
 use Rattle.att_base.specs.Files.{Contents, IsName}
 use Rattle.hmac256.specs.Hmac.{hmac}
-use Rattle.chronicle.specs.declared.worlds.Shape.{Shape}
 use Rattle.challenge.specs.declared.Challenge.{Challenge}
 use Rattle.challenge.specs.Bytes.{challenge_head, challenge_bytes}
 use Rattle.report.specs.declared.Report.{Report}
@@ -22,7 +21,7 @@ use Rattle.command_plans.specs.Lines.{bad_line}
 use Rattle.command_plans.specs.Steps.{Reason, bad, CommandStep, exactly, ◌>>=◌}
 use Rattle.command_plans.specs.Reading.{input_limit, ReadFile}
 use Rattle.command_plans.specs.Written.{Written}
-use Rattle.input_files.specs.InputFiles.{KeyIn, ChallengeIn, ReadImages}
+use Rattle.input_files.specs.InputFiles.{KeyIn, ChallengeIn, ReadImages, image_shape}
 use Rattle.message_commands.specs.Lines.{challenge_line, verdict_lines}
 
 -- ---- `challenge`
@@ -52,10 +51,6 @@ VerifierIn name files = do
   text ← ReadFile input_limit name files
   exactly (checked_verifier name (verifier_file text))
 
--- where the attested blocks lie
-abbrev pub plan_shape : VerifierPlan → Shape
-plan_shape plan = record { base = plan.geometry.base; size = plan.geometry.size; ranges = plan.ranges }
-
 -- what a verifier holds, and the images that it knows
 pub record Knowledge : Type 0 where
   pub standing : Standing
@@ -63,7 +58,7 @@ pub record Knowledge : Type 0 where
 
 abbrev pub knows : VerifierPlan → List ℕ → Challenge → Known → Knowledge
 knows plan key expected set =
-    record { standing = record { key = key; expected = expected; last = plan.last; shape = plan_shape plan }; images = set.images }
+    record { standing = record { key = key; expected = expected; last = plan.last; shape = image_shape plan.geometry plan.ranges }; images = set.images }
 
 -- what the verifier file of this name and the files that it names say
 unfoldable pub KnowledgeIn : List ℕ → Option Contents → CommandStep Knowledge
@@ -71,7 +66,7 @@ KnowledgeIn verifier files = do
   plan ← VerifierIn verifier files
   key ← KeyIn plan.key files
   expected ← ChallengeIn key plan.challenge files
-  set ← ReadImages plan.images (no_images (plan_shape plan)) files
+  set ← ReadImages plan.images (no_images (image_shape plan.geometry plan.ranges)) files
   exactly (Ok (knows plan key expected set))
 
 -- ---- `verify`

@@ -9,7 +9,7 @@ ghost use Rattle.message_commands.specs.Plans.{Knowledge, accepts, accepts_note,
 use crate::lines::verdict_lines;
 use command_plans::{Ending, FileParts, Output, Parts};
 use image_set::ImageSet;
-use report::read_report;
+use report::{Report, read_report};
 use std::alloc::{AllocError, Global};
 use verifier::{NoteVerdict, Verdict, Verifier};
 
@@ -53,19 +53,17 @@ fn ending_of(verdict: Verdict, note: Option<NoteVerdict>) -> Ending
 fn verdict_on_note(
     verifier: &Verifier<'_>,
     verdict: Verdict,
-    report: &[u8],
+    report: Option<&Report>,
     note: Option<&[u8]>,
 ) -> Option<NoteVerdict>
-    ensures { result ≡ verdict_on_note verifier.now.key verdict (report_in report.now) (option_copied note.entry) }
+    ensures { result ≡ verdict_on_note verifier.now.key verdict (option_copied report.entry) (option_copied note.entry) }
 {
     let note = note?;
     if !accepts(verdict) {
         return None;
     }
-    match read_report(report) {
-        Some(report) => Some(verifier.judge_note(note, &report)),
-        None => None,
-    }
+    let report = report?;
+    Some(verifier.judge_note(note, report))
 }
 
 /// What is written of the verdicts on the bytes of a report, and of a note where there is one.
@@ -81,8 +79,9 @@ pub fn judgement<P: Parts + Drop, B: FileParts + Drop>(
     ensures { let known : Knowledge = record { standing = verifier.old; images = set.now.images } in
         IfOk result (λ o. o ≡ judgement known report.now (option_copied note.entry)) }
 {
-    let verdict = verifier.judge(report, set);
-    let noted = verdict_on_note(verifier, verdict, report, note);
+    let report = read_report(report);
+    let verdict = verifier.judge_read(report.as_ref(), set);
+    let noted = verdict_on_note(verifier, verdict, report.as_ref(), note);
     let lines = verdict_lines(alloc, set, verdict, noted)?;
     let ending = ending_of(verdict, noted);
     Output::ended(alloc, Vec::new(alloc), lines.into_bytes(), ending)

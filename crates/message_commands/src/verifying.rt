@@ -4,16 +4,15 @@ ghost use Rattle.std.specs.Prelude.{◌≡◌, Ok};
 ghost use Rattle.std.specs.Option.{ForSome, option_copied, option_map};
 ghost use Rattle.att_base.specs.Files.{IsName};
 ghost use Rattle.command_plans.specs.Answered.{Gives, Reads};
-ghost use Rattle.message_commands.specs.Plans.{KnowledgeIn, judgement, plan_shape, verify_plan};
+ghost use Rattle.message_commands.specs.Plans.{KnowledgeIn, judgement, verify_plan};
 
 use crate::judging::judgement;
 use crate::reading::{read_note, read_plan};
 use att_base::Files;
 use challenge::Challenge;
-use chronicle::Shape;
 use command_plans::{FileParts, INPUT_LIMIT, Output, Parts, Stop, read_file};
 use image_set::ImageSet;
-use input_files::{read_challenge, read_images, read_key};
+use input_files::{image_shape, read_challenge, read_images, read_key};
 use std::alloc::Global;
 use std::marker::Model;
 use verifier::{Verifier, VerifierPlan};
@@ -38,17 +37,6 @@ impl Model for Knowledge {
     } };
 }
 
-// Where the attested blocks lie.
-fn plan_shape(plan: &VerifierPlan) -> Shape
-    ensures { result ≡ plan_shape plan.now }
-{
-    Shape {
-        base: plan.geometry.base(),
-        size: plan.geometry.size(),
-        ranges: plan.ranges,
-    }
-}
-
 // What the verifier file of this name and the files that it names say.
 fn read_knowledge<F: Files>(alloc: Global, files: &mut F, verifier: &str) -> Result<Knowledge, Stop>
     requires { IsName verifier.now }
@@ -57,7 +45,8 @@ fn read_knowledge<F: Files>(alloc: Global, files: &mut F, verifier: &str) -> Res
     let plan = read_plan(alloc, files, verifier)?;
     let key = read_key(alloc, files, plan.key.as_str())?;
     let expected = read_challenge(alloc, files, &key, plan.challenge.as_str())?;
-    let set = read_images(alloc, files, plan_shape(&plan), plan.images.as_slice())?;
+    let shape = image_shape(&plan.geometry, plan.ranges);
+    let set = read_images(alloc, files, shape, plan.images.as_slice())?;
     Ok(Knowledge {
         key,
         expected,

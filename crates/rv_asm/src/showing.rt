@@ -3,8 +3,7 @@
 ghost use Rattle.std.specs.Prelude.{◌≡◌, ◌+◌, ◌++◌, ◌≤◌, [], ◌∷◌, length, codes, Some, IsSome, OnOk, OnErr};
 ghost use Rattle.std.specs.Fmt.{signed_decimal};
 ghost use Rattle.arrayvec.specs.ArrayVec.{array_vec_len};
-ghost use Rattle.att_base.specs.Faults.{FaultCountRose};
-ghost use Rattle.att_base.specs.Streams.{put_after, AppendsFront};
+ghost use Rattle.att_base.specs.Streams.{Puts};
 ghost use Rattle.rv_decode.specs.declared.instruction.Instr.{Instr};
 ghost use Rattle.rv_decode.specs.Words.{word_of};
 ghost use Rattle.rv_asm.specs.Shown.{register_text, field_text, statement_text, indexed_text, word_text, text_of, shown_text};
@@ -221,11 +220,7 @@ pub fn put_text(line: &mut Line, word: u32)
 /// 0ff0000f is `.word 0x` and its eight digits. After `Failed` a front of the text was appended.
 pub fn show<K: Sink>(instr: &Instr, sink: &mut K) -> Result<(), Failed>
     requires { IsSome (word_of instr.now) }
-    ensures ok { OnOk result (K.held sink.new ≡ put_after (K.held sink.old) (text_of instr.now)) }
-    ensures err { OnErr result (AppendsFront (K.held sink.old) (K.held sink.new) (text_of instr.now)) }
-    ensures later { K.faults sink.old ≤ K.faults sink.new }
-    ensures cause { OnErr result (FaultCountRose (K.faults sink.old) (K.faults sink.new)) }
-    ensures quiet { OnOk result (K.faults sink.new ≡ K.faults sink.old) }
+    ensures puts { Puts result (text_of instr.now) (K.held sink.old) (K.held sink.new) (K.faults sink.old) (K.faults sink.new) }
 {
     let mut line = Line::new();
     put_instr(&mut line, instr);

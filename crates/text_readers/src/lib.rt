@@ -1,7 +1,7 @@
 //! Lines, words and numbers of the texts that people write: definitions, and the readers that meet them.
 //!
-//! `next_line`, `words_in` and `cut_at` take a text apart. `decimal`, `plain_decimal` and `hex_number` read numbers, and
-//! `word_digits` and `byte_digits` write them.
+//! `next_line`, `words_in`, `cut_at` and `first_place` take a text apart. `decimal`, `plain_decimal` and `hex_number` read
+//! numbers, and `put_number`, `word_digits` and `byte_digits` write them.
 #![tactic(auto)]
 
 mod digits;
@@ -10,6 +10,6 @@ mod numbers;
 #[cfg(test)]
 mod tests;
 
-pub use digits::{byte_digits, word_digits};
-pub use lines::{Words, cut_at, next_line, words_in};
+pub use digits::{byte_digits, put_number, word_digits};
+pub use lines::{Words, cut_at, first_place, next_line, words_in};
 pub use numbers::{decimal, has_leading_zero, hex_number, plain_decimal};

@@ -15,7 +15,8 @@ pub enum Words<'a> {
     More,
 }
 
-fn first_place(byte: u8, text: &[u8]) -> Option<usize>
+/// The place of the first such byte; None exactly where no byte is one.
+pub fn first_place(byte: u8, text: &[u8]) -> Option<usize>
     ensures { result ≡ position (λ b. b == byte) text.now }
 {
     text.iter().position(|b| *b == byte)

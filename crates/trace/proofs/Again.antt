@@ -161,7 +161,7 @@ number_again end n rest low small =
     let cut = slice_split_at (λ b. b == end) (decimal n) end rest (no_end end low (decimal n) (decimal_is_IsNumeral n small).0.1) (eq-eqb end end refl) in
     number_found end n (decimal n ++ end ∷ rest) (decimal n) rest cut (plain_decimal-decimal n small)
 
-coded_again : (form : Discipline) → coded_discipline (code_of form) ≡ Some form
+pub coded_again : (form : Discipline) → coded_discipline (code_of form) ≡ Some form
 coded_again discipline.All = refl
 coded_again discipline.AllExt = refl
 coded_again discipline.Dec = refl

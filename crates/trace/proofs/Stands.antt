@@ -1,6 +1,6 @@
 -- The entry that is read stands there.
 use Rattle.std.proofs.Common.{◌≡◌, ◌==◌, ℕ, ◌+◌, ◌-◌, ◌*◌, ◌^◌, ◌<◌, ◌≤◌, ◌&&◌, List, [], ◌∷◌, ◌++◌, Option, Some, None, Bor, refl, sym, ap, ◌∙◌, subst, arith, inl, inr, nat_lt, append_assoc}
-use Rattle.std.specs.Prelude.{◌⊎◌, is_some, IfSome, IfNone, codes, nat_le}
+use Rattle.std.specs.Prelude.{◌≢◌, ◌⊎◌, is_some, IfSome, IfNone, codes, nat_le}
 use Rattle.std.specs.Option.{option_map, option_map_or}
 use Rattle.std.specs.Fmt.{decimal}
 use Rattle.std.proofs.lemmas.Fmt.{decimal_digit}
@@ -21,7 +21,7 @@ use Rattle.trace.specs.Text.{width_digit, width_digits, access_text, act_text, e
 use Rattle.trace.specs.Printable.{ActIsPrintable, IsPrintable}
 use Rattle.trace.specs.Reading.{text_behind, digits_at, decimal_at, access_at, sized_at, fetch_at, load_at, store_at, coded_discipline, start_at, copy_at, short_act_at, act_at, entry_at}
 use Rattle.trace.proofs.Takes.{bind_some, behind_takes, word_takes, value_takes, decimal_takes, cond_opt}
-use Rattle.trace.proofs.Again.{entry_again}
+use Rattle.trace.proofs.Again.{coded_again, entry_again}
 use Rattle.trace.proofs.Unique.{regroup}
 
 -- what one of two readings gave
@@ -143,6 +143,15 @@ coded_takes code form h = elim (cases_Bool (code == 1)) [
             ]
       ]
 ]
+
+none_coded : (code : ℕ) (o : Option Discipline) → coded_discipline code ≡ o → ((form : Discipline) → code_of form ≢ code) → None ≡ o
+none_coded code None is none = refl
+none_coded code (Some form) is none = absurd (none form (sym (coded_takes code form is)))
+
+-- what is found by a code is the discipline that has it
+pub code_found : (code : ℕ) (o : Option Discipline) → IfSome o (λ form. code_of form ≡ code) → IfNone o ((form : Discipline) → code_of form ≢ code) → o ≡ coded_discipline code
+code_found code (Some form) found none = sym (coded_again form) ∙ ap coded_discipline found
+code_found code None found none = none_coded code (coded_discipline code) refl none
 
 start_takes : (text rest : List ℕ) (y : Act × List ℕ) → text ≡ codes " start " ++ rest → start_at rest ≡ Some y → IsAct text y
 unfolding start_at act_text

@@ -14,16 +14,8 @@ ghost use Rattle.trace.specs.Text.{text_of_lines, width_digit, width_digits, acc
 ghost use Rattle.trace.specs.Printable.{ActIsPrintable, IsPrintable};
 
 use chronicle::{Act, Discipline, Entry, Geometry, Range, Ranges, Width, World};
-use itoa::Buffer;
 use std::alloc::AllocError;
-use text_readers::{byte_digits, word_digits};
-
-fn put_number(out: &mut Vec<u8>, number: u64) -> Result<(), AllocError>
-    ensures { OnOk result (out.new.items ≡ out.old.items ++ decimal number) }
-{
-    let mut buffer = Buffer::new();
-    out.extend_from_slice(buffer.format(number).as_bytes())
-}
+use text_readers::{byte_digits, put_number, word_digits};
 
 fn half_digits(value: u16) -> [u8; 4]
     ensures { result ≡ width_digits Half value }

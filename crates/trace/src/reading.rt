@@ -143,14 +143,10 @@ fn store_at(text: &[u8]) -> Option<(Act, &[u8])>
 fn coded_discipline(code: u64) -> Option<Discipline>
     ensures { result ≡ coded_discipline code }
 {
-    match code {
-        1 => Some(Discipline::All),
-        2 => Some(Discipline::AllExt),
-        3 => Some(Discipline::Dec),
-        4 => Some(Discipline::Inc),
-        5 => Some(Discipline::IncExt),
-        _ => None,
+    if code > 255 {
+        return None;
     }
+    Discipline::from_code(code as u8)
 }
 
 #[tactic(auto, unfolding(crate::specs::Reading::start_at))]

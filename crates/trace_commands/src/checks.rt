@@ -12,10 +12,10 @@ use crate::report_lines::refusal;
 use att_base::Files;
 use chronicle::{Chronicle, broken_is_exact};
 use command_plans::{Ending, FileParts, Output, Parts, Stop};
-use device_commands::put_number;
 use input_files::read_key;
 use listed::{Bytes, Text};
 use std::alloc::{AllocError, Global};
+use text_readers::put_number;
 use trace::{CheckFault, Confirmed, Index, check};
 
 // `confirmed NAME`, or `refused NAME V`

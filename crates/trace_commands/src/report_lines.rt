@@ -6,8 +6,9 @@ ghost use Rattle.device_commands.specs.RunLines.{numbered_line};
 ghost use Rattle.trace_commands.specs.GeneratedRuns.{all_report_lines, answer_line, refusal, report_lines};
 
 use crate::ends::ReportEnd;
-use device_commands::{put_line, put_number, put_release, put_report_line};
+use device_commands::{put_line, put_release, put_report_line};
 use std::alloc::AllocError;
+use text_readers::put_number;
 use trace::Confirmed;
 
 /// The number of the first reason for which a report isn't confirmed: 1 it is malformed, 2 it has another shape, 3 the

@@ -108,7 +108,8 @@ impl<'a> Model for Verifier<'a> {
 
 impl<'a> Verifier<'a> {
     ghost use Rattle.std.specs.Prelude.{◌≡◌, ◌<◌, ℕ, length};
-    ghost use Rattle.verifier.specs.Verdicts.{Standing, answers, last_after, note_verdict_of, verdict_of, verdict_on};
+    ghost use Rattle.std.specs.Option.{option_copied};
+    ghost use Rattle.verifier.specs.Verdicts.{Standing, answers, last_after, note_verdict_of, verdict_of, verdict_on, verdict_on_reading};
 
     /// The verifier that expects the report on this challenge. `last` is the greatest counter that was
     /// accepted so far, and `shape` says where the attested blocks lie.
@@ -174,22 +175,34 @@ impl<'a> Verifier<'a> {
         }
     }
 
-    /// Judges the bytes of a report; the set's images are of this verifier's shape. An accepted report's
-    /// counter is the last accepted one from then on. Every other verdict changes nothing.
+    /// Judges what the bytes of a report were read as, None where they are those of none; the set's images are of this
+    /// verifier's shape. An accepted report's counter is the last accepted one from then on. Every other verdict changes
+    /// nothing.
+    pub fn judge_read(&mut self, report: Option<&Report>, set: &ImageSet) -> Verdict
+        requires { set.now.shape ≡ self.old.shape }
+        ensures verdict { result ≡ verdict_on_reading self.old set.now.images (option_copied report.entry) }
+        ensures last { self.new ≡ record self.old { last = last_after self.old result } }
+        // So the set has the image's name.
+        ensures within { (position : ℕ) → result ≡ Verdict.Accepted position → position < length set.now.images }
+    {
+        let verdict = match report {
+            Some(report) => self.verdict_on(report, set),
+            None => Verdict::Malformed,
+        };
+        self.last = self.last_after(verdict);
+        verdict
+    }
+
+    /// Judges the bytes of a report, by what they are read as.
     #[tactic(auto, unfolding(crate::specs::Verdicts::verdict_of))]
     pub fn judge(&mut self, report: &[u8], set: &ImageSet) -> Verdict
         requires { set.now.shape ≡ self.old.shape }
         ensures verdict { result ≡ verdict_of self.old set.now.images report.now }
         ensures last { self.new ≡ record self.old { last = last_after self.old result } }
-        // So the set has the image's name.
         ensures within { (position : ℕ) → result ≡ Verdict.Accepted position → position < length set.now.images }
     {
-        let verdict = match read_report(report) {
-            Some(report) => self.verdict_on(&report, set),
-            None => Verdict::Malformed,
-        };
-        self.last = self.last_after(verdict);
-        verdict
+        let report = read_report(report);
+        self.judge_read(report.as_ref(), set)
     }
 
     /// Judges the bytes of a release note on what the report is on.

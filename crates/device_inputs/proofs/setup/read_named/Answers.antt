@@ -3,9 +3,9 @@ use Rattle.image_set.specs.Match.{no_images}
 use Rattle.command_plans.specs.Answered.{came_of}
 use Rattle.command_plans.specs.Steps.{exactly}
 use Rattle.command_plans.proofs.Binds.{stops}
-use Rattle.input_files.specs.InputFiles.{KeyIn, ReadImages}
+use Rattle.input_files.specs.InputFiles.{KeyIn, ReadImages, image_shape}
 use Rattle.device_inputs.specs.Inputs.{PlacedIn}
-use Rattle.device_inputs.specs.Setups.{device_shape, AdmissionsIn, NamedIn}
+use Rattle.device_inputs.specs.Setups.{AdmissionsIn, NamedIn}
 use Rattle.device_inputs.proofs.Named.{setup_of, placed_then, admissions_then, images_then, behind_key, behind_placed, behind_admissions, with_images}
 use Rattle.device_inputs.proofs.setup.read_named.Goals as goal
 
@@ -55,8 +55,8 @@ returns-in_err-images-clause-reads g c =
     behind_key c.args.device.now plan key came old one four (rw c.as_str.ensures at c.in_ok-key.ensures)
     (behind_placed c.args.device.now plan key image came one two four c.in_ok-placed.ensures.reads
     (behind_admissions plan key image answers came two three four (rw (c.deref.ensures.value, c.as_slice.ensures) at c.in_ok-admissions.ensures.reads)
-    (stops (ReadImages plan.images (no_images (device_shape plan))) (λ known files. exactly (Ok (setup_of plan key image answers known))) (λ s. s) c.from_residual-in_err-images.result c.in_err-images.field-0.0 three four
-    c.from_residual-in_err-images.ensures.1 (rw (c.device_shape.ensures, c.as_slice-2.ensures) at c.in_err-images.ensures.reads))))
+    (stops (ReadImages plan.images (no_images (image_shape plan.geometry plan.ranges))) (λ known files. exactly (Ok (setup_of plan key image answers known))) (λ s. s) c.from_residual-in_err-images.result c.in_err-images.field-0.0 three four
+    c.from_residual-in_err-images.ensures.1 (rw (c.image_shape.ensures, c.as_slice-2.ensures) at c.in_err-images.ensures.reads))))
 
 pub returns-clause-reads : goal.returns-clause-reads
 returns-clause-reads g c =
@@ -74,4 +74,4 @@ returns-clause-reads g c =
     rw c.from_vec-key.ensures (behind_key c.args.device.now plan key (Ok s) old one four (rw c.as_str.ensures at c.in_ok-key.ensures)
     (behind_placed c.args.device.now plan key image (Ok s) one two four c.in_ok-placed.ensures.reads
     (behind_admissions plan key image answers (Ok s) two three four (rw (c.deref.ensures.value, c.as_slice.ensures) at c.in_ok-admissions.ensures.reads)
-    (with_images plan key image answers known three four (rw (c.device_shape.ensures, c.as_slice-2.ensures) at c.in_ok-images.ensures.reads)))))
+    (with_images plan key image answers known three four (rw (c.image_shape.ensures, c.as_slice-2.ensures) at c.in_ok-images.ensures.reads)))))

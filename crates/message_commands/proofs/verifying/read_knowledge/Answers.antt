@@ -3,8 +3,8 @@ use Rattle.image_set.specs.Match.{no_images}
 use Rattle.command_plans.specs.Answered.{came_of}
 use Rattle.command_plans.specs.Steps.{exactly}
 use Rattle.command_plans.proofs.Binds.{stops}
-use Rattle.input_files.specs.InputFiles.{KeyIn, ChallengeIn, ReadImages}
-use Rattle.message_commands.specs.Plans.{VerifierIn, KnowledgeIn, knows, plan_shape}
+use Rattle.input_files.specs.InputFiles.{KeyIn, ChallengeIn, ReadImages, image_shape}
+use Rattle.message_commands.specs.Plans.{VerifierIn, KnowledgeIn, knows}
 use Rattle.message_commands.proofs.Knows.{key_then, challenge_then, images_then, behind_plan, behind_key, behind_challenge, with_shape, knows_all}
 use Rattle.message_commands.proofs.verifying.read_knowledge.Goals as goal
 
@@ -50,8 +50,8 @@ returns-in_err-set g c =
     behind_plan c.args.verifier.now plan came old one four c.in_ok-plan.ensures.reads
     (behind_key plan key came one two four (rw c.as_str.ensures at c.in_ok-key.ensures)
     (behind_challenge plan key expected came two three four (rw (c.deref.ensures.value, c.as_str-2.ensures) at c.in_ok-expected.ensures)
-    (stops (ReadImages plan.images (no_images (plan_shape plan))) (λ set files. exactly (Ok (knows plan key expected set))) (λ k. k) c.from_residual-in_err-set.result c.in_err-set.field-0.0 three four c.from_residual-in_err-set.ensures.1
-    (rw (c.plan_shape.ensures, c.as_slice.ensures) at c.in_err-set.ensures.reads))))
+    (stops (ReadImages plan.images (no_images (image_shape plan.geometry plan.ranges))) (λ set files. exactly (Ok (knows plan key expected set))) (λ k. k) c.from_residual-in_err-set.result c.in_err-set.field-0.0 three four c.from_residual-in_err-set.ensures.1
+    (rw (c.image_shape.ensures, c.as_slice.ensures) at c.in_err-set.ensures.reads))))
 
 pub returns : goal.returns
 returns g c =
@@ -68,4 +68,4 @@ returns g c =
     behind_plan c.args.verifier.now plan (Ok k) old one four c.in_ok-plan.ensures.reads
     (behind_key plan key (Ok k) one two four (rw c.as_str.ensures at c.in_ok-key.ensures)
     (behind_challenge plan key expected (Ok k) two three four (rw (c.deref.ensures.value, c.as_str-2.ensures) at c.in_ok-expected.ensures)
-    (knows_all plan key expected set three four (rw (c.plan_shape.ensures, c.as_slice.ensures) at c.in_ok-set.ensures.reads) (c.in_ok-set.ensures.shape ∙ c.plan_shape.ensures))))
+    (knows_all plan key expected set three four (rw (c.image_shape.ensures, c.as_slice.ensures) at c.in_ok-set.ensures.reads) (c.in_ok-set.ensures.shape ∙ c.image_shape.ensures))))
