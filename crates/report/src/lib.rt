@@ -32,7 +32,7 @@ pub use heads::{head, head_of, note_head, tail};
 pub use notes::{NOTE_BYTES, one_note, read_note, write_note};
 pub use reports::{one_report, read_report, write_report};
 pub use shapes::same_shape;
-pub use tags::{note_on, note_tag, report_tag};
+pub use tags::{begun_tag, note_on, note_tag, report_tag};
 
 /// What a measurement answers.
 #[derive(Clone, Copy, Debug, PartialEq, Eq)]

@@ -2,15 +2,16 @@
 
 ghost use Rattle.std.specs.Prelude.{◌≡◌};
 ghost use Rattle.report.specs.Reports.{asked_of};
-ghost use Rattle.report.specs.Tags.{report_tag, note_tag};
+ghost use Rattle.report.specs.Tags.{head_bytes, report_tag, note_tag};
+ghost use Rattle.hmac256.specs.States.{StandsFor};
 
 use crate::{Note, Report, head_of, note_head, tail};
 use hmac256::Hmac;
 
-/// The tag of a report with these fields, whatever its own tag, if the attested memory held these bytes.
-#[tactic(auto, unfolding(crate::specs::Tags::report_tag))]
-pub fn report_tag(key: &[u8], report: &Report, attested: &[u8]) -> [u8; 32]
-    ensures { result ≡ report_tag key.now (asked_of report.now) report.now.shape attested.now report.now.start report.now.end }
+/// The tag of a report with these fields as it begins: it has the report's head, and is to get the attested bytes, and
+/// then those of `tail`.
+pub fn begun_tag(key: &[u8], report: &Report) -> Hmac
+    ensures { StandsFor result key.now (head_bytes (asked_of report.now) report.now.shape) }
 {
     let head = head_of(
         report.discipline,
@@ -20,6 +21,15 @@ pub fn report_tag(key: &[u8], report: &Report, attested: &[u8]) -> [u8; 32]
     );
     let mut hmac = Hmac::new(key);
     hmac.update(head.as_slice());
+    hmac
+}
+
+/// The tag of a report with these fields, whatever its own tag, if the attested memory held these bytes.
+#[tactic(auto, unfolding(crate::specs::Tags::report_tag))]
+pub fn report_tag(key: &[u8], report: &Report, attested: &[u8]) -> [u8; 32]
+    ensures { result ≡ report_tag key.now (asked_of report.now) report.now.shape attested.now report.now.start report.now.end }
+{
+    let mut hmac = begun_tag(key, report);
     hmac.update(attested);
     hmac.update(&tail(report.start, report.end));
     hmac.finish()

@@ -5,7 +5,8 @@ ghost use Rattle.history.specs.declared.events.Width.TheVariants.{Byte, Half, Wo
 ghost use Rattle.history.specs.declared.events.Act.TheVariants.{Fetch, Load};
 ghost use Rattle.rv_core.specs.Effects.{quotient, quotient_signed, remainder, remainder_signed};
 ghost use Rattle.rv_core.specs.Runs.{asks};
-ghost use Rattle.rv_core.specs.Worked.{program_at, entry, up_to_store, up_to_load, load_made, exit};
+ghost use Rattle.history.specs.Worked.{application};
+ghost use Rattle.rv_core.specs.Worked.{program_at, up_to_store, up_to_load, load_made, exit};
 
 use crate::waits::{CoreWant, Ending, TrapKind};
 
@@ -28,11 +29,11 @@ pub fn run_of_a_small_program()
 /// Which entries are none of the small program's run.
 #[tactic(auto, unfolding(rv_decode::specs::Table::listed))]
 pub fn entries_of_no_run()
-    ensures fetch_address { asks (program_at 0x8000_0000 9) (entry (Fetch 0x8000_0004 0x13) ∷ []) ≡ None }
+    ensures fetch_address { asks (program_at 0x8000_0000 9) (application (Fetch 0x8000_0004 0x13) ∷ []) ≡ None }
     ensures store_value { asks (program_at 0x8000_0000 9) (up_to_store ++ up_to_load 0x8000_0004 Word 6) ≡ None }
     ensures store_address { asks (program_at 0x8000_0000 9) (up_to_store ++ up_to_load 0x8000_0008 Word 5) ≡ None }
     ensures store_width { asks (program_at 0x8000_0000 9) (up_to_store ++ up_to_load 0x8000_0004 Byte 5) ≡ None }
-    ensures no_store { asks (program_at 0x8000_0000 9) (up_to_store ++ entry (Fetch 0x8000_000c 0x13) ∷ []) ≡ None }
+    ensures no_store { asks (program_at 0x8000_0000 9) (up_to_store ++ application (Fetch 0x8000_000c 0x13) ∷ []) ≡ None }
     ensures other_access { asks (program_at 0x8000_0000 9) (up_to_store ++ load_made 0x8000_0004 Word) ≡ None }
     ensures load_address { asks (program_at 0x8000_0000 9)
         (up_to_store ++ up_to_load 0x8000_0004 Word 5 ++ load_made 0x8000_0004 Half) ≡ None }
@@ -48,13 +49,13 @@ pub fn endings_of_programs()
     ensures outside { asks (program_at 0x9000_0000 0) []
         ≡ Some (CoreWant.Ended (Ending.Trap TrapKind.FetchAccess 0x9000_0000)) }
     ensures fuel { asks (program_at 0x8000_0000 0) [] ≡ Some (CoreWant.Ended Ending.Fuel) }
-    ensures illegal { asks (program_at 0x8000_0000 9) (entry (Fetch 0x8000_0000 0) ∷ [])
+    ensures illegal { asks (program_at 0x8000_0000 9) (application (Fetch 0x8000_0000 0) ∷ [])
         ≡ Some (CoreWant.Ended (Ending.Trap TrapKind.Illegal 0x8000_0000)) }
     ensures past_illegal { asks (program_at 0x8000_0000 9)
-        (entry (Fetch 0x8000_0000 0) ∷ entry (Fetch 0x8000_0004 0x13) ∷ []) ≡ None }
+        (application (Fetch 0x8000_0000 0) ∷ application (Fetch 0x8000_0004 0x13) ∷ []) ≡ None }
     // The third of three fetches is the exit's.
     ensures exit { asks (program_at 0x8000_0000 3) exit ≡ Some (CoreWant.Ended (Ending.Exit 7)) }
-    ensures past_exit { asks (program_at 0x8000_0000 9) (exit ++ entry (Fetch 0x8000_000c 0x13) ∷ []) ≡ None }
+    ensures past_exit { asks (program_at 0x8000_0000 9) (exit ++ application (Fetch 0x8000_000c 0x13) ∷ []) ≡ None }
 {}
 
 /// The manual's table of divisions by zero and of the one that overflows, -2^31 by -1.

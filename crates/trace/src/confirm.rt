@@ -17,7 +17,7 @@ use crate::index::Index;
 use chronicle::{Act, Discipline, Entry, World, copied_is_memory, places_of_a_history};
 use history::blocks_in_order;
 use hmac256::Hmac;
-use report::{Report, head_of, read_report, same_shape, tail};
+use report::{Report, begun_tag, read_report, same_shape, tail};
 
 /// What a report is told: the first of these cases.
 #[derive(Clone, Copy, Debug, PartialEq, Eq)]
@@ -154,14 +154,7 @@ fn tag_over(key: &[u8], report: &Report, world: &World, memory: &[u8]) -> [u8; 3
     ensures { (m : Memory) → memory.now ≡ bytes_from m world.now.layout.base (byte_count world.now.layout)
         → result ≡ report_tag key.now (asked_of report.now) report.now.shape (attested_bytes world.now m) report.now.start report.now.end }
 {
-    let head = head_of(
-        report.discipline,
-        report.counter,
-        &report.nonce,
-        &report.shape,
-    );
-    let mut hmac = Hmac::new(key);
-    hmac.update(head.as_slice());
+    let mut hmac = begun_tag(key, report);
     hash_attested(&mut hmac, world, memory);
     hmac.update(&tail(report.start, report.end));
     hmac.finish()
