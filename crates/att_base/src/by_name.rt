@@ -5,6 +5,9 @@ ghost use Rattle.att_base.specs.Files.{Contents, FilesView, IsName, with_name, p
 use crate::faults::{FileFault, ReadFault};
 use std::alloc::Global;
 
+/// The most bytes of a file's name.
+pub const NAME_BYTES: usize = 255;
+
 /// Files, which are read and written by name. A name is a text of 1 to 255 bytes.
 pub trait Files {
     /// What is held, which names were asked for, and how often a call has failed.

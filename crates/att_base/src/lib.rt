@@ -17,7 +17,7 @@ mod std_files;
 mod streams;
 mod words;
 
-pub use by_name::{Files, names_are_apart, read_whole, write_whole};
+pub use by_name::{Files, NAME_BYTES, names_are_apart, read_whole, write_whole};
 pub use faults::{DeviceFault, Failed, FileFault, ReadFault};
 pub use gates::{
     Gate, MADE_COPY, MADE_END, MADE_FETCH, MADE_LOAD, MADE_RELEASE, MADE_START, MADE_STORE,

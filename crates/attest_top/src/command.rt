@@ -8,7 +8,7 @@ ghost use Rattle.challenge.specs.Challenges.{IsChallenge};
 ghost use Rattle.attest_top.specs.Lines.{is_file_name, show_form, gen_form, two_files_form, note_form, challenge_form, check_form, first_form, counted_form, still_of, run_of};
 ghost use Rattle.attest_top.specs.Prepared.{run_meant};
 
-use att_base::Words;
+use att_base::{NAME_BYTES, Words};
 use challenge::Challenge;
 use message_commands::challenge_of;
 use std::marker::Model;
@@ -78,9 +78,6 @@ impl<'a> Model for Command<'a> {
 
     ghost invariant = { λ c. HasFileNames c.kind };
 }
-
-/// The most bytes of a file's name.
-const NAME_BYTES: usize = 255;
 
 /// The most words of `check`: 64 names of reports behind three words.
 const CHECK_WORDS: usize = 67;

@@ -15,7 +15,7 @@ use hmac256::hmac256;
 pub const CHALLENGE_BYTES: usize = 72;
 
 /// The bytes before the MAC, which it digests.
-const HEAD_BYTES: usize = 40;
+pub const HEAD_BYTES: usize = 40;
 
 /// The 40 bytes that a challenge begins with.
 #[tactic(auto, unfolding(crate::specs::Bytes::challenge_head))]

@@ -23,7 +23,7 @@ mod tests;
 ghost use Rattle.std.specs.Prelude.{◌≡◌};
 ghost use Rattle.challenge.specs.Bytes.{admission};
 
-pub use bytes::{CHALLENGE_BYTES, one_spelling, read, write};
+pub use bytes::{CHALLENGE_BYTES, HEAD_BYTES, one_spelling, read, write};
 pub use faults::{ChallengeFault, Stale};
 pub use history::Discipline;
 pub use numbers::{discipline_with, u32_at, u64_at};

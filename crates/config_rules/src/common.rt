@@ -14,6 +14,9 @@ use toml::Table;
 /// The largest number of `last`: the largest integer of a document.
 const MOST_LAST: u64 = 9_223_372_036_854_775_807;
 
+/// The most images that a device or a verifier knows.
+pub const MOST_IMAGES: usize = 64;
+
 /// What device files and verifier files both say.
 #[derive(Debug, Drop)]
 pub struct Common {

@@ -26,8 +26,8 @@ mod common;
 mod region;
 mod values;
 
-pub use common::{Common, read_common};
-pub use region::{Region, read_region};
+pub use common::{Common, MOST_IMAGES, read_common};
+pub use region::{MOST_U32, Region, read_region};
 pub use values::{
     integer_between, name_at, names_at, names_in, number_at, read_document, value_at,
 };

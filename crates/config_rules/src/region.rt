@@ -15,7 +15,7 @@ use lock_plan::{Range, Ranges};
 use toml::{Table, Value};
 
 /// The largest u32, as an integer of a document.
-const MOST_U32: u64 = 4_294_967_295;
+pub const MOST_U32: u64 = 4_294_967_295;
 
 /// The largest number in a range.
 const MOST_BLOCKS: u64 = 4096;

@@ -8,13 +8,10 @@ ghost use Rattle.toml.specs.View.{items_view, table_view, view};
 ghost use Rattle.config_rules.specs.Rules.{FailsRule};
 ghost use Rattle.config_rules.specs.Values.{document, each_of, integer_between, name_at, name_of, names_at, names_in, number_at, number_in};
 
-use att_base::DeviceFault;
+use att_base::{DeviceFault, NAME_BYTES};
 use listed::{Items, Text};
 use std::alloc::{AllocError, Global};
 use toml::{Table, Value};
-
-/// The most bytes of a file name.
-const LONGEST_NAME: usize = 255;
 
 // The text that the bytes are.
 fn text_of(bytes: &[u8]) -> Option<&str>
@@ -101,7 +98,7 @@ fn name_of(value: &Value) -> Option<&str>
         Some(text) => text,
         None => return None,
     };
-    if text.is_empty() || text.len() > LONGEST_NAME {
+    if text.is_empty() || text.len() > NAME_BYTES {
         return None;
     }
     Some(text)

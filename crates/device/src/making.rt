@@ -14,10 +14,8 @@ use app_thread::App;
 use block_memory::Geometry;
 use challenge::Challenge;
 use device_config::AppPlan;
+use rv_core::CONSOLE_BYTES;
 use std::alloc::{AllocError, Global};
-
-/// How many bytes a console holds.
-const CONSOLE_BYTES: usize = 4096;
 
 /// An actor without a turn.
 const FRESH: Tally = Tally {

@@ -28,9 +28,7 @@ pub use laws::{
     uncut_runs_are_finished,
 };
 pub use outputs::is_cut;
-pub use run_lines::{
-    put_app_ends, put_entries, put_line, put_release, put_report_line, put_waits,
-};
+pub use run_lines::{put_app_ends, put_entries, put_line, put_release, put_report_line, put_waits};
 pub use scheduled::prepare_sched;
 pub use threaded::prepare_run;
 pub use trace_parts::TraceParts;

@@ -6,22 +6,16 @@ ghost use Rattle.config_rules.specs.Values.{array_in, each_of};
 ghost use Rattle.device_config.specs.Arrays.{app_plan_in, app_plan_of, apps_at, challenge_plan_in, challenge_plan_of, challenges_at, images_at};
 
 use crate::plans::{AppPlan, ChallengePlan};
-use config_rules::{name_at, names_in, number_at, value_at};
+use config_rules::{MOST_IMAGES, MOST_U32, name_at, names_in, number_at, value_at};
 use listed::{Items, Text};
 use std::alloc::{AllocError, Global};
 use toml::{Table, Value};
-
-/// The most images that a device knows.
-const MOST_IMAGES: usize = 64;
 
 /// The most applications of a device.
 const MOST_APPS: usize = 8;
 
 /// The most challenges of a run.
 const MOST_CHALLENGES: usize = 64;
-
-/// The largest u32, as an integer of a document.
-const MOST_U32: u64 = 4_294_967_295;
 
 /// The most instructions of an application.
 const MOST_FUEL: u64 = 1_000_000;

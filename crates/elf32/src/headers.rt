@@ -8,11 +8,11 @@ ghost use Rattle.elf32.specs.Files.{e_phoff, e_phnum, e_entry, header, headers, 
 use crate::faults::ElfFault;
 use byteorder::{ByteOrder, LittleEndian};
 
-/// The bytes of the ELF header (Elf32_Ehdr).
-const HEADER_BYTES: usize = 52;
+/// The bytes of the ELF header (Elf32_Ehdr), after which `write` puts the program headers.
+pub const HEADER_BYTES: u16 = 52;
 
 /// The bytes of a program header (Elf32_Phdr).
-const PROGRAM_HEADER_BYTES: u16 = 32;
+pub const PROGRAM_HEADER_BYTES: u16 = 32;
 
 /// The most program headers of a file.
 const MOST_HEADERS: u16 = 64;
@@ -191,7 +191,7 @@ fn has_out_of_range(bytes: &[u8]) -> bool
 pub fn first_broken_rule(bytes: &[u8]) -> Option<ElfFault>
     ensures { result ≡ first_broken_rule bytes.now }
 {
-    if bytes.len() < HEADER_BYTES {
+    if bytes.len() < usize::from(HEADER_BYTES) {
         return Some(ElfFault::Short);
     }
     if !has_magic(bytes) {

@@ -7,18 +7,13 @@ ghost use Rattle.elf32.specs.Files.{elf_of};
 ghost use Rattle.elf32.specs.Written.{elf_header, segment_header, segment_headers, contents, elf_bytes, loaded};
 ghost use Rattle.executable.specs.Writable.{total_size, IsWritable};
 
+use crate::headers::{HEADER_BYTES, PROGRAM_HEADER_BYTES};
 use byteorder::{ByteOrder, LittleEndian};
 use executable::{Program, Segment};
 use std::alloc::{AllocError, Global};
 
 /// The first 16 bytes of a file, e_ident: the magic bytes, 32 bits, little-endian, version 1.
 const IDENTITY: &[u8] = &[0x7f, 0x45, 0x4c, 0x46, 1, 1, 1, 0, 0, 0, 0, 0, 0, 0, 0, 0];
-
-/// The bytes of the ELF header (Elf32_Ehdr), after which the program headers begin.
-const HEADER_BYTES: u32 = 52;
-
-/// The bytes of a program header (Elf32_Phdr).
-const PROGRAM_HEADER_BYTES: u32 = 32;
 
 /// Appends numbers of two bytes.
 #[tactic(auto, unfolding(crate::specs::Fields::half))]
@@ -68,7 +63,7 @@ fn put_elf_header(out: &mut Vec<u8>, entry: u32, count: u16) -> Result<(), Alloc
 {
     out.extend_from_slice(IDENTITY)?;
     put_halves(out, &[2, 243])?;
-    put_words(out, &[1, entry, HEADER_BYTES, 0, 0])?;
+    put_words(out, &[1, entry, u32::from(HEADER_BYTES), 0, 0])?;
     put_halves(out, &[52, 32, count, 0, 0, 0])
 }
 
@@ -126,7 +121,7 @@ fn file_of(alloc: Global, program: &Program) -> Result<Vec<u8>, AllocError>
     put_elf_header(&mut out, program.entry, count as u16)?;
     put_segment_headers(
         &mut out,
-        HEADER_BYTES + PROGRAM_HEADER_BYTES * count as u32,
+        u32::from(HEADER_BYTES) + u32::from(PROGRAM_HEADER_BYTES) * count as u32,
         segments,
     )?;
     put_contents(&mut out, segments)?;

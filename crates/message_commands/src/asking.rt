@@ -11,13 +11,10 @@ ghost use Rattle.message_commands.specs.Plans.{challenge_plan, written_challenge
 
 use crate::lines::challenge_line;
 use att_base::{Files, NamedFile};
-use challenge::Challenge;
+use challenge::{Challenge, HEAD_BYTES};
 use command_plans::{FileParts, Output, Parts, Planned, Stop};
 use input_files::read_key;
 use std::alloc::{AllocError, Global};
-
-/// The bytes before the MAC.
-const HEAD_BYTES: usize = 40;
 
 // A nonce has 16 bytes, so the MAC stands at its place.
 fn nonce_is_whole(challenge: &Challenge)

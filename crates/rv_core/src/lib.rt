@@ -27,7 +27,7 @@ mod worked;
 
 pub use block_memory::{Geometry, Width};
 pub use laws::{fronts_are_begun, runs_grow_by_one};
-pub use running::Core;
+pub use running::{CONSOLE_BYTES, Core};
 pub use waits::{CoreWant, Ending, Reply, TrapKind};
 pub use worked::{
     divisions_without_a_quotient, endings_of_programs, entries_of_no_run, run_of_a_small_program,

@@ -12,7 +12,7 @@ use history::Width;
 use std::marker::Model;
 
 /// How many bytes a console holds.
-const CONSOLE_BYTES: usize = 4096;
+pub const CONSOLE_BYTES: usize = 4096;
 
 /// The register a0, the first argument and the result of a call.
 const A0: usize = 10;

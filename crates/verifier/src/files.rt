@@ -6,13 +6,10 @@ ghost use Rattle.verifier.specs.Files.{verifier_plan, verifier_file};
 
 use att_base::DeviceFault;
 use block_memory::Geometry;
-use config_rules::{Common, name_at, names_at, read_common, read_document};
+use config_rules::{Common, MOST_IMAGES, name_at, names_at, read_common, read_document};
 use listed::{Items, Text};
 use lock_plan::Ranges;
 use std::alloc::Global;
-
-/// The most images of a verifier.
-const MOST_IMAGES: usize = 64;
 
 /// What a verifier file says.
 #[derive(Debug, Drop)]
