@@ -18,10 +18,10 @@ pub const PROGRAM_HEADER_BYTES: u16 = 32;
 const MOST_HEADERS: u16 = 64;
 
 /// EM_RISCV (RISC-V ELF psABI).
-const RISCV: u16 = 243;
+pub const RISCV: u16 = 243;
 
 /// PT_LOAD, PT_DYNAMIC and PT_INTERP: the types of program headers that are looked at.
-const LOAD: u32 = 1;
+pub const LOAD: u32 = 1;
 
 const DYNAMIC: u32 = 2;
 
@@ -191,7 +191,7 @@ fn has_out_of_range(bytes: &[u8]) -> bool
 pub fn first_broken_rule(bytes: &[u8]) -> Option<ElfFault>
     ensures { result ≡ first_broken_rule bytes.now }
 {
-    if bytes.len() < usize::from(HEADER_BYTES) {
+    if bytes.len() < HEADER_BYTES as usize {
         return Some(ElfFault::Short);
     }
     if !has_magic(bytes) {

@@ -7,7 +7,7 @@ ghost use Rattle.elf32.specs.Files.{elf_of};
 ghost use Rattle.elf32.specs.Written.{elf_header, segment_header, segment_headers, contents, elf_bytes, loaded};
 ghost use Rattle.executable.specs.Writable.{total_size, IsWritable};
 
-use crate::headers::{HEADER_BYTES, PROGRAM_HEADER_BYTES};
+use crate::headers::{HEADER_BYTES, LOAD, PROGRAM_HEADER_BYTES, RISCV};
 use byteorder::{ByteOrder, LittleEndian};
 use executable::{Program, Segment};
 use std::alloc::{AllocError, Global};
@@ -62,9 +62,10 @@ fn put_elf_header(out: &mut Vec<u8>, entry: u32, count: u16) -> Result<(), Alloc
     ensures { OnOk result (out.new.items ≡ out.old.items ++ elf_header entry count) }
 {
     out.extend_from_slice(IDENTITY)?;
-    put_halves(out, &[2, 243])?;
-    put_words(out, &[1, entry, u32::from(HEADER_BYTES), 0, 0])?;
-    put_halves(out, &[52, 32, count, 0, 0, 0])
+    put_halves(out, &[2, RISCV])?;
+    put_words(out, &[1, entry, HEADER_BYTES as u32, 0, 0])?;
+    let sizes = [HEADER_BYTES, PROGRAM_HEADER_BYTES, count, 0, 0, 0];
+    put_halves(out, &sizes)
 }
 
 /// Appends the program header of a segment whose bytes stand at this offset: to be loaded, all its bytes, readable,
@@ -77,7 +78,7 @@ fn put_segment_header(out: &mut Vec<u8>, offset: u32, segment: &Segment) -> Resu
     let size = segment.bytes.len() as u32;
     put_words(
         out,
-        &[1, offset, segment.addr, segment.addr, size, size, 7, 1],
+        &[LOAD, offset, segment.addr, segment.addr, size, size, 7, 1],
     )
 }
 
@@ -121,7 +122,7 @@ fn file_of(alloc: Global, program: &Program) -> Result<Vec<u8>, AllocError>
     put_elf_header(&mut out, program.entry, count as u16)?;
     put_segment_headers(
         &mut out,
-        u32::from(HEADER_BYTES) + u32::from(PROGRAM_HEADER_BYTES) * count as u32,
+        HEADER_BYTES as u32 + PROGRAM_HEADER_BYTES as u32 * count as u32,
         segments,
     )?;
     put_contents(&mut out, segments)?;
