@@ -36,7 +36,7 @@ CountsCall (Ok v) before now = now ≡ before
 CountsCall (Err fault) before now = FaultCountRose before now
 
 -- what comes of appending this piece: the whole of it is appended, or the call failed and a front of it is
-pub record Puts {V : Type 0} (result : Result V Failed) (piece : List ℕ) (held_old held_new : Option (List ℕ)) (faults_old faults_new : ℕ) : Type 0 where
+pub record AppendsPiece {V : Type 0} (result : Result V Failed) (piece : List ℕ) (held_old held_new : Option (List ℕ)) (faults_old faults_new : ℕ) : Type 0 where
   pub ok : OnOk result (held_new ≡ put_after held_old piece)
   pub err : OnErr result (AppendsFront held_old held_new piece)
   pub counted : CountsCall result faults_old faults_new

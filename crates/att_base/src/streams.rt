@@ -1,7 +1,7 @@
 // What is read and written piece by piece.
 ghost use Rattle.std.specs.Prelude.{◌≡◌, ℕ, ◌+◌, ◌^◌, ◌<◌, ◌≤◌, List, ◌++◌, length, take, Option, None, IfOk, OnOk, OnErr, IsErrOf};
 ghost use Rattle.att_base.specs.Files.{CountsRead};
-ghost use Rattle.att_base.specs.Streams.{put_before, put_after, CountsCall, IsDrained, Puts, TakesAll, TakesTooMany, TakesFront};
+ghost use Rattle.att_base.specs.Streams.{put_before, put_after, CountsCall, IsDrained, AppendsPiece, TakesAll, TakesTooMany, TakesFront};
 
 use crate::faults::{Failed, ReadFault};
 use std::alloc::{AllocError, Global};
@@ -44,7 +44,7 @@ pub trait Sink {
 
 /// Appends the whole piece. After `Failed` a front of it was appended.
 pub fn put_all<K: Sink>(sink: &mut K, piece: &[u8]) -> Result<(), Failed>
-    ensures puts { Puts result piece.now (K.held sink.old) (K.held sink.new) (K.faults sink.old) (K.faults sink.new) }
+    ensures puts { AppendsPiece result piece.now (K.held sink.old) (K.held sink.new) (K.faults sink.old) (K.faults sink.new) }
 {
     let mut at = 0;
     'writing: while at < piece.len() {

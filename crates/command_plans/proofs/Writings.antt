@@ -6,7 +6,7 @@ use Rattle.std.specs.List.{concat}
 use Rattle.std.specs.Result.{IsErrAnd}
 use Rattle.att_base.specs.declared.faults.Failed.{Failed}
 use Rattle.att_base.specs.Faults.{FaultCountRose}
-use Rattle.att_base.specs.Streams.{put_after, AppendsFront, Puts}
+use Rattle.att_base.specs.Streams.{put_after, AppendsFront, AppendsPiece}
 use Rattle.att_base.specs.Files.{Contents, put_under, add_under, AddsFront, unchanged, grown, PutsFront, untouched, begun}
 use Rattle.att_base.proofs.FileLemmas.{put_then_add}
 use Rattle.att_base.proofs.StreamLemmas.{put_after-put_after}
@@ -67,7 +67,7 @@ front_behind first whole old mid now put more =
 
 -- it was appended behind what was appended first
 pub puts_behind : {V : Type 0} (r : Result V Failed) (first rest : List ℕ) (old mid now : Option (List ℕ)) (before between after : ℕ) → mid ≡ put_after old first → between ≡ before
-    → Puts r rest mid now between after → Puts r (first ++ rest) old now before after
+    → AppendsPiece r rest mid now between after → AppendsPiece r (first ++ rest) old now before after
 puts_behind (Ok v) first rest old mid now before between after put same more =
     record { ok = more.ok ∙ ap (λ (o : Option (List ℕ)). put_after o rest) put ∙ put_after-put_after old first rest; err = tt; counted = more.counted ∙ same }
 puts_behind (Err e) first rest old mid now before between after put same more =
@@ -75,7 +75,7 @@ puts_behind (Err e) first rest old mid now before between after put same more =
 
 -- it stopped, and the fault is handed on
 pub puts_front : {V : Type 0} (r : Result V Failed) (P : Failed → Type 0) (piece : List ℕ) (old now : Option (List ℕ)) (before after : ℕ) → IsErrAnd r P → AppendsFront old now piece → FaultCountRose before after
-    → Puts r piece old now before after
+    → AppendsPiece r piece old now before after
 puts_front (Ok v) P piece old now before after is front rose = absurd is
 puts_front (Err e) P piece old now before after is front rose = record { ok = tt; err = front; counted = rose }
 

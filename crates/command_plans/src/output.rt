@@ -1,7 +1,7 @@
 //! What a command has to write, before anything is written.
 
 ghost use Rattle.std.specs.Prelude.{◌≡◌, ◌≤◌, ℕ, List, [], ◌++◌, All, IfOk, OnOk, OnErr, string_bytes};
-ghost use Rattle.att_base.specs.Streams.{Puts};
+ghost use Rattle.att_base.specs.Streams.{AppendsPiece};
 ghost use Rattle.att_base.specs.Files.{IsName, put_under, PutsFront, CountsWrite};
 ghost use Rattle.command_plans.specs.Lines.{ending_line};
 ghost use Rattle.command_plans.specs.Written.{joined};
@@ -174,7 +174,7 @@ impl<P: Parts + Drop, B: FileParts + Drop> Output<P, B> {
     /// Appends all that goes to standard output, and leaves nothing of it. After `Failed` a front of it was appended, and an
     /// end of it is left. It takes no memory.
     pub fn put_out<K: Sink>(&mut self, out: &mut K) -> Result<(), Failed>
-        ensures puts { Puts result self.old.out (K.held out.old) (K.held out.new) (K.faults out.old) (K.faults out.new) }
+        ensures puts { AppendsPiece result self.old.out (K.held out.old) (K.held out.new) (K.faults out.old) (K.faults out.new) }
         ensures spent { OnOk result (self.new.out ≡ []) }
         ensures left { (front : List ℕ) × (self.old.out ≡ front ++ self.new.out) }
         ensures files { self.new.files ≡ self.old.files }

@@ -98,6 +98,8 @@ fn an_output_is_told_whole(rt: HostRuntime) -> Result<(), Fail> {
     output.put_out(&mut sink)?;
     assert_eq!(rt; sink.held(), b"text".as_slice());
     assert_eq!(rt; output.line(), "attest: full at 16\n");
+    output.put_out(&mut sink)?;
+    assert_eq!(rt; sink.held(), b"text".as_slice(), "what is put out is gone");
     let mut none: Output<NoParts, NoParts> = Output::told(alloc, NoParts);
     none.put_out(&mut sink)?;
     assert_eq!(rt;

@@ -1,7 +1,7 @@
 //! Writing what was prepared: standard output and files, in parts.
 
 ghost use Rattle.std.specs.Prelude.{◌≡◌, ◌≤◌, ℕ, List, [], ◌++◌, OnOk, OnErr};
-ghost use Rattle.att_base.specs.Streams.{Puts};
+ghost use Rattle.att_base.specs.Streams.{AppendsPiece};
 ghost use Rattle.att_base.specs.Files.{IsName, put_under, PutsFront, CountsWrite};
 ghost use Rattle.command_plans.specs.Written.{joined, rest_bytes};
 
@@ -15,7 +15,7 @@ const PIECE_LEN: usize = 4096;
 /// Appends all that the parts tell, piece by piece, and leaves nothing to tell. After `Failed` a front of it was appended,
 /// and what is still to be told is an end of it. It takes no memory.
 pub fn put_parts<K: Sink, P: Parts>(sink: &mut K, parts: &mut P) -> Result<(), Failed>
-    ensures puts { Puts result (P.told parts.old) (K.held sink.old) (K.held sink.new) (K.faults sink.old) (K.faults sink.new) }
+    ensures puts { AppendsPiece result (P.told parts.old) (K.held sink.old) (K.held sink.new) (K.faults sink.old) (K.faults sink.new) }
     ensures spent { OnOk result (P.told parts.new ≡ []) }
     ensures left { (front : List ℕ) × (P.told parts.old ≡ front ++ P.told parts.new) }
 {
@@ -31,7 +31,7 @@ pub fn put_parts<K: Sink, P: Parts>(sink: &mut K, parts: &mut P) -> Result<(), F
 
 /// Appends all that the rest tells, where there is one, and leaves nothing of it, or after `Failed` an end.
 pub fn put_rest<K: Sink, P: Parts>(sink: &mut K, rest: &mut Option<P>) -> Result<(), Failed>
-    ensures puts { Puts result (rest_bytes P.told rest.old) (K.held sink.old) (K.held sink.new) (K.faults sink.old) (K.faults sink.new) }
+    ensures puts { AppendsPiece result (rest_bytes P.told rest.old) (K.held sink.old) (K.held sink.new) (K.faults sink.old) (K.faults sink.new) }
     ensures spent { OnOk result (rest_bytes P.told rest.new ≡ []) }
     ensures left { (front : List ℕ) × (rest_bytes P.told rest.old ≡ front ++ rest_bytes P.told rest.new) }
 {

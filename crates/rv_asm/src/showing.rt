@@ -3,7 +3,7 @@
 ghost use Rattle.std.specs.Prelude.{◌≡◌, ◌+◌, ◌++◌, ◌≤◌, [], ◌∷◌, length, codes, Some, IsSome, OnOk, OnErr};
 ghost use Rattle.std.specs.Fmt.{signed_decimal};
 ghost use Rattle.arrayvec.specs.ArrayVec.{array_vec_len};
-ghost use Rattle.att_base.specs.Streams.{Puts};
+ghost use Rattle.att_base.specs.Streams.{AppendsPiece};
 ghost use Rattle.rv_decode.specs.declared.instruction.Instr.{Instr};
 ghost use Rattle.rv_decode.specs.Words.{word_of};
 ghost use Rattle.rv_asm.specs.Shown.{register_text, field_text, statement_text, indexed_text, word_text, text_of, shown_text};
@@ -220,7 +220,7 @@ pub fn put_text(line: &mut Line, word: u32)
 /// 0ff0000f is `.word 0x` and its eight digits. After `Failed` a front of the text was appended.
 pub fn show<K: Sink>(instr: &Instr, sink: &mut K) -> Result<(), Failed>
     requires { IsSome (word_of instr.now) }
-    ensures puts { Puts result (text_of instr.now) (K.held sink.old) (K.held sink.new) (K.faults sink.old) (K.faults sink.new) }
+    ensures puts { AppendsPiece result (text_of instr.now) (K.held sink.old) (K.held sink.new) (K.faults sink.old) (K.faults sink.new) }
 {
     let mut line = Line::new();
     put_instr(&mut line, instr);
