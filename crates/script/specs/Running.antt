@@ -1,4 +1,4 @@
--- What one step of a script does to a core and to the output.
+-- For private functions alone: what one step of a script does to a core and to the output.
 use Rattle.std.specs.Prelude.{◌≡◌, ℕ, Bool, true, false, List, [], ◌∷◌, ◌++◌, length, reverse, codes}
 use Rattle.std.specs.Fmt.{decimal}
 use Rattle.history.specs.declared.events.Entry.{Entry}

@@ -1,4 +1,4 @@
--- What a tagger keeps of the last pass: enough to print its tags.
+-- For private functions alone: what a tagger keeps of the last pass, enough to print its tags.
 use Rattle.std.specs.Prelude.{◌≡◌, ℕ, ◌+◌, true, false, List, ◌++◌, length, Some}
 use Rattle.history.specs.declared.events.Entry.{Entry}
 use Rattle.history.specs.Layout.{Setting}

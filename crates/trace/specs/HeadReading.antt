@@ -1,4 +1,4 @@
--- The head's lines behind the first, and the last line of a trace, read from the front of a text.
+-- For private functions alone: the head's lines behind the first, and the last line of a trace, read from the front of a text.
 use Rattle.std.specs.Prelude.{ℕ, Bool, ◌&&◌, nat_le, if◌then◌else◌, List, codes, Option, Some}
 use Rattle.sequencing.specs.Options.{◌>>=◌, when}
 use Rattle.history.specs.declared.ranges.Range.{Range}

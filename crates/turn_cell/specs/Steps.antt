@@ -1,5 +1,5 @@
--- What each step on the table tells the seat that makes it: before and after are the seat with its slots, and
--- found is the number that stood in the word.
+-- For private functions alone: what each step on the table tells the seat that makes it. Before and after are the seat
+-- with its slots, and found is the number that stood in the word.
 use Rattle.std.specs.Prelude.{◌≡◌, ◌≢◌, ℕ, Option, Some, List, ◌∷◌, length}
 use mathlib.Core.Option.{some}
 use Rattle.atomic_table.specs.Table.{Me, Step, rest}
