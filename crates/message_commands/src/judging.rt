@@ -67,7 +67,7 @@ fn verdict_on_note(
 }
 
 /// What is written of the verdicts on the bytes of a report, and of a note where there is one.
-#[tactic(auto, unfolding(crate::specs::Plans::judgement))]
+#[tactic(auto, unfolding(crate::specs::Plans::judgement, verifier::specs::Verdicts::verdict_of))]
 pub fn judgement<P: Parts + Drop, B: FileParts + Drop>(
     alloc: Global,
     verifier: &mut Verifier<'_>,

@@ -56,7 +56,7 @@ returns-in_err-images-clause-reads g c =
     (behind_placed c.args.device.now plan key image came one two four c.in_ok-placed.ensures.reads
     (behind_admissions plan key image answers came two three four (rw (c.deref.ensures.value, c.as_slice.ensures) at c.in_ok-admissions.ensures.reads)
     (stops (ReadImages plan.images (no_images (image_shape plan.geometry plan.ranges))) (λ known files. exactly (Ok (setup_of plan key image answers known))) (λ s. s) c.from_residual-in_err-images.result c.in_err-images.field-0.0 three four
-    c.from_residual-in_err-images.ensures.1 (rw (c.image_shape.ensures, c.as_slice-2.ensures) at c.in_err-images.ensures.reads))))
+    c.from_residual-in_err-images.ensures.1 (rw (c.image_shape-shape.ensures, c.as_slice-2.ensures) at c.in_err-images.ensures.reads))))
 
 pub returns-clause-reads : goal.returns-clause-reads
 returns-clause-reads g c =
@@ -74,4 +74,4 @@ returns-clause-reads g c =
     rw c.from_vec-key.ensures (behind_key c.args.device.now plan key (Ok s) old one four (rw c.as_str.ensures at c.in_ok-key.ensures)
     (behind_placed c.args.device.now plan key image (Ok s) one two four c.in_ok-placed.ensures.reads
     (behind_admissions plan key image answers (Ok s) two three four (rw (c.deref.ensures.value, c.as_slice.ensures) at c.in_ok-admissions.ensures.reads)
-    (with_images plan key image answers known three four (rw (c.image_shape.ensures, c.as_slice-2.ensures) at c.in_ok-images.ensures.reads)))))
+    (with_images plan key image answers known three four (rw (c.image_shape-shape.ensures, c.as_slice-2.ensures) at c.in_ok-images.ensures.reads)))))

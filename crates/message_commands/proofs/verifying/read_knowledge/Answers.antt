@@ -51,7 +51,7 @@ returns-in_err-set g c =
     (behind_key plan key came one two four (rw c.as_str.ensures at c.in_ok-key.ensures)
     (behind_challenge plan key expected came two three four (rw (c.deref.ensures.value, c.as_str-2.ensures) at c.in_ok-expected.ensures)
     (stops (ReadImages plan.images (no_images (image_shape plan.geometry plan.ranges))) (λ set files. exactly (Ok (knows plan key expected set))) (λ k. k) c.from_residual-in_err-set.result c.in_err-set.field-0.0 three four c.from_residual-in_err-set.ensures.1
-    (rw (c.image_shape.ensures, c.as_slice.ensures) at c.in_err-set.ensures.reads))))
+    (rw (c.image_shape-shape.ensures, c.as_slice.ensures) at c.in_err-set.ensures.reads))))
 
 pub returns : goal.returns
 returns g c =
@@ -68,4 +68,4 @@ returns g c =
     behind_plan c.args.verifier.now plan (Ok k) old one four c.in_ok-plan.ensures.reads
     (behind_key plan key (Ok k) one two four (rw c.as_str.ensures at c.in_ok-key.ensures)
     (behind_challenge plan key expected (Ok k) two three four (rw (c.deref.ensures.value, c.as_str-2.ensures) at c.in_ok-expected.ensures)
-    (knows_all plan key expected set three four (rw (c.image_shape.ensures, c.as_slice.ensures) at c.in_ok-set.ensures.reads) (c.in_ok-set.ensures.shape ∙ c.image_shape.ensures))))
+    (knows_all plan key expected set three four (rw (c.image_shape-shape.ensures, c.as_slice.ensures) at c.in_ok-set.ensures.reads) (c.in_ok-set.ensures.shape ∙ c.image_shape-shape.ensures))))
