@@ -4,7 +4,7 @@ use Rattle.std.proofs.lemmas.Bool.{leb-true, and_parts}
 use Rattle.std.proofs.lemmas.List.Elements.{All-nil, All-cons}
 use Rattle.toml.specs.Data.{Data, Items, no_items, item, Members, get_member, as_str, as_array}
 use Rattle.att_base.specs.Files.{IsName}
-use Rattle.config_rules.specs.Values.{is_between, number_at, document, file_name, name_of, name_at, each_of, counted, array_in, names_in, names_at}
+use Rattle.config_rules.specs.Values.{is_between, number_at, document, file_name, name_of, name_at, each_of, counted, names_in, names_at}
 use Rattle.sequencing.specs.Options.{when}
 use Rattle.config_rules.specs.Rules.{rule, and_then, region, common}
 use Rattle.config_rules.specs.declared.common.Common.{Common}

@@ -1,4 +1,4 @@
-use Rattle.std.proofs.Common.{List, ℕ, Option, Some, Ok, Err, refl}
+use Rattle.std.proofs.Common.{List, ℕ, Option, Some, Ok, refl}
 use Rattle.command_plans.specs.Reading.{input_limit, ReadFile}
 use Rattle.command_plans.specs.Steps.{exactly}
 use Rattle.command_plans.specs.Answered.{reason_of}
