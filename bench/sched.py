@@ -3,11 +3,13 @@
 
 Usage: sched.py PROGRAM TURN_BENCH [LOOPS]   (LOOPS is how often each application loops in the longest run, 67,000 unless given)
 
-Each loop is seven entries. Prints, for each length, the entries, the seconds of the best of three runs, entries a second and
-the greatest resident memory in KiB. Linear growth shows as seconds that double. Beside them stand the entries a second of a bare
-core in the same mix, by TURN_BENCH.
+Each loop is seven entries. Prints, for each length, the entries, the seconds of the best of five runs, entries a second and
+the greatest resident memory in KiB. Each run makes its trace anew: that of the run before is removed first, and the time that
+this takes isn't counted. Linear growth shows as seconds that double. Beside them stand the entries a second of a bare core in the
+same mix, by TURN_BENCH, also the best of five runs.
 """
 import os
+import pathlib
 import subprocess
 import sys
 import tempfile
@@ -17,6 +19,7 @@ sys.dont_write_bytecode = True
 import turns  # those of this folder
 
 APPS = 8
+RUNS = 5
 
 
 def text(k, loops):
@@ -62,7 +65,11 @@ def assemble(program, loops):
 
 
 def timed(*words):
-    """The seconds, the resident memory and the entries of one run. Status 1 is a report of memory that is no known image."""
+    """The seconds, the resident memory and the entries of one run, which makes its trace anew.
+
+    Status 1 is a report of memory that is no known image.
+    """
+    pathlib.Path("trace").unlink(missing_ok=True)
     begun = time.perf_counter()
     child = subprocess.Popen(words, stdout=subprocess.PIPE, text=True)
     said = child.stdout.read()
@@ -81,11 +88,11 @@ def main():
         prepare(program)
         for loops in (most // 4, most // 2, most):
             assemble(program, loops)
-            runs = [timed(program, "sched", "device", "schedule") for _ in range(3)]
+            runs = [timed(program, "sched", "device", "schedule") for _ in range(RUNS)]
             best, entries = min(r[0] for r in runs), runs[0][2]
             print(f"{entries:8} entries  {best:.3f} s  {entries / best:,.0f} a second  {max(r[1] for r in runs)} KiB")
         os.chdir("/")
-    bare = turns.best(turn_bench, "bare", 1, entries // turns.MIX * turns.MIX, 3)
+    bare = turns.best(turn_bench, "bare", 1, entries // turns.MIX * turns.MIX, RUNS)
     print(f"  a bare core: {bare:,.0f} a second, {bare * best / entries:.1f} times as many")
 
 

@@ -17,15 +17,14 @@ use chronicle::{Act, Discipline, Entry, Geometry, Range, Ranges, Width, World};
 use std::alloc::AllocError;
 use text_readers::{byte_digits, put_number, word_digits};
 
+#[tactic(auto, unfolding(hex::specs::Hex::encode_with))]
 fn half_digits(value: u16) -> [u8; 4]
     ensures { result ≡ width_digits Half value }
 {
-    let mut digits = [0u8; 4];
-    let bytes = value.to_be_bytes();
-    let Ok(()) = hex::encode_to_slice(bytes.as_slice(), &mut digits) else {
-        unreachable!()
-    };
-    digits
+    let [high, low] = value.to_be_bytes();
+    let [a, b] = byte_digits(high);
+    let [c, d] = byte_digits(low);
+    [a, b, c, d]
 }
 
 // The actor, a digit.
