@@ -46,6 +46,7 @@ impl App {
 
     /// The access that the application asks next, or how it has ended. A fetch is of the word at the pc; an access
     /// has room in memory and is aligned, and a stored value has no more bytes than its width.
+    #[inline(always)]
     pub fn next(&self) -> CoreWant
         ensures value { result ≡ next_access self.now }
         ensures proper { IsProperWant self.now.now.core.layout result }
@@ -68,6 +69,7 @@ impl App {
     ///
     /// Where the entry was made, the application goes on with what it has read. `Again`, where the store's block is
     /// locked in a history that isn't full, and `Full`, where the history is full, leave it as it is.
+    #[inline(always)]
     pub fn turn<P: MemPort>(&mut self, port: &mut P) -> Turn
         requires actor { IsApplication (P.low port.old) (P.high port.old) }
         requires layout { self.old.now.core.layout ≡ (P.world port.old).layout }
@@ -89,6 +91,7 @@ impl App {
     }
 
     // Asks for the fetch that comes next.
+    #[inline(always)]
     fn fetch<P: MemPort>(&mut self, port: &mut P, addr: u32) -> Turn
         requires actor { IsApplication (P.low port.old) (P.high port.old) }
         requires layout { self.old.now.core.layout ≡ (P.world port.old).layout }
@@ -118,6 +121,7 @@ impl App {
     }
 
     // Asks for the load that comes next.
+    #[inline(always)]
     fn load<P: MemPort>(&mut self, port: &mut P, addr: u32, width: Width) -> Turn
         requires actor { IsApplication (P.low port.old) (P.high port.old) }
         requires layout { self.old.now.core.layout ≡ (P.world port.old).layout }
@@ -146,6 +150,7 @@ impl App {
     }
 
     // Asks for the store that comes next.
+    #[inline(always)]
     fn store<P: MemPort>(&mut self, port: &mut P, addr: u32, width: Width, value: u32) -> Turn
         requires actor { IsApplication (P.low port.old) (P.high port.old) }
         requires layout { self.old.now.core.layout ≡ (P.world port.old).layout }

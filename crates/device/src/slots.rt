@@ -31,6 +31,7 @@ pub struct Slot {
 }
 
 // A turn of the application over the core: nobody else makes an entry in it.
+#[inline(always)]
 fn turn_over(app: &mut App, core: &mut MemCore, actor: u32) -> Turn
     requires actor { (1 ≤ actor) × (actor ≤ 8) }
     requires layout { app.old.now.core.layout ≡ core.old.world.layout }
@@ -54,6 +55,7 @@ impl Slot {
 
     /// One turn of the application, as this actor: its next entry, a wait for a lock, a stop at a full history, or
     /// nothing where it is over or was stopped. It takes no memory.
+    #[inline(always)]
     pub fn turn(&mut self, core: &mut MemCore, actor: u32) -> Stepped
         requires actor { (1 ≤ actor) × (actor ≤ 8) }
         requires layout { self.old.app.now.core.layout ≡ core.old.world.layout }

@@ -23,6 +23,7 @@ pub fn next_word(pc: u32) -> u32
 }
 
 // A jump, with the address of the next word in `rd`.
+#[inline(always)]
 fn jump(rd: u32, pc: u32, target: u32) -> Effect
     requires register { rd < 32 }
     requires on_word { pc % 4 ≡ 0 }
@@ -40,6 +41,7 @@ fn jump(rd: u32, pc: u32, target: u32) -> Effect
 }
 
 // A branch; one that isn't taken never traps.
+#[inline(always)]
 fn branch(is_taken: bool, pc: u32, target: u32) -> Effect
     requires { pc % 4 ≡ 0 }
     ensures value { result ≡ spec.branch_effect is_taken pc target }
@@ -67,6 +69,7 @@ fn low_bytes(width: Width, value: u32) -> u32
 }
 
 // A store of the lowest bytes of a value.
+#[inline(always)]
 fn store(op: StoreOp, addr: u32, value: u32) -> Effect
     ensures value { result ≡ Effect.Stores (store_width op) addr (value % 256 ^ width_bytes (store_width op)) }
     ensures proper { IsProperEffect result }
@@ -80,6 +83,7 @@ fn store(op: StoreOp, addr: u32, value: u32) -> Effect
 }
 
 // The effect of an instruction on the registers `x` at `pc`.
+#[inline(always)]
 fn executed(instr: Instr, x: &[u32; 32], pc: u32) -> Effect
     requires registers { HasRegisters instr }
     requires on_word { pc % 4 ≡ 0 }
@@ -145,6 +149,7 @@ fn executed(instr: Instr, x: &[u32; 32], pc: u32) -> Effect
 
 /// The effect of a word on the registers `x` at `pc`.
 #[tactic(auto, using(crate::proofs::DecodedLaws::decoded_effect, crate::proofs::DecodedLaws::illegal_effect, crate::proofs::DecodedLaws::decoded_registers))]
+#[inline(always)]
 pub fn effect_of(word: u32, x: &[u32; 32], pc: u32) -> Effect
     requires { pc % 4 ≡ 0 }
     ensures value { result ≡ spec.effect_of word x.now pc }

@@ -50,6 +50,7 @@ fn in_register(width: Width, signed: bool, value: u32) -> u32
 }
 
 // Where a core stands after the fetch of a load.
+#[inline(always)]
 fn before_load(
     geometry: &Geometry,
     pc: u32,
@@ -76,6 +77,7 @@ fn before_load(
 }
 
 // Where a core stands after the fetch of a store.
+#[inline(always)]
 fn before_store(geometry: &Geometry, pc: u32, width: Width, addr: u32, value: u32) -> Phase
     requires { value < 256 ^ width_bytes width }
     ensures { result ≡ store_phase geometry.now pc width addr value }
@@ -152,6 +154,7 @@ impl Core {
 
     /// What the core asks next. It asks the same until it is told. A fetch is of the word at the pc; an access has
     /// room in memory and is aligned, and a stored value has no more bytes than its width.
+    #[inline(always)]
     pub fn want(&self) -> CoreWant
         ensures value { result ≡ core_want self.now }
         ensures proper { IsProperWant self.now.core.layout result }
@@ -174,6 +177,7 @@ impl Core {
     /// its width. A program that stands where the core so far does goes on from there by this access; so where the
     /// core is at the end of a begun run, it is at the end of one with this access more. A fetch takes one of the
     /// program's fuel.
+    #[inline(always)]
     pub fn told(&mut self, reply: Reply)
         requires { Replies (core_want self.old) reply }
         ensures value { self.new ≡ told_of self.old reply }
@@ -213,6 +217,7 @@ impl Core {
     }
 
     // The next word was fetched.
+    #[inline(always)]
     fn fetched(&mut self, word: u32)
         requires { self.old.fetched ≡ None }
         ensures { self.new ≡ told_of self.old (Fetched word) }
@@ -245,6 +250,7 @@ impl Core {
     }
 
     // The instruction of this word isn't over.
+    #[inline(always)]
     fn waits_in(&mut self, word: u32, phase: Phase)
         requires now { self.old.fetched ≡ None }
         requires phase { KeepsPhase self.old.core word phase }
@@ -284,6 +290,7 @@ impl Core {
     }
 
     // The load is done.
+    #[inline(always)]
     fn loaded(&mut self, value: u32)
         requires { Replies (core_want self.old) (Loaded value) }
         ensures { self.new ≡ told_of self.old (Loaded value) }
@@ -302,6 +309,7 @@ impl Core {
     }
 
     // The store is done.
+    #[inline(always)]
     fn stored(&mut self)
         requires { Replies (core_want self.old) Stored }
         ensures { self.new ≡ told_of self.old Stored }

@@ -145,6 +145,7 @@ fn mul_op(funct3: u32) -> Option<MulOp>
 }
 
 #[tactic(auto, using(crate::proofs::Rows::jalr_rows))]
+#[inline(always)]
 fn jalr(word: u32) -> Option<Instr>
     requires { f.opcode word ≡ 0b1100111 }
     ensures { result ≡ instr_of word }
@@ -160,6 +161,7 @@ fn jalr(word: u32) -> Option<Instr>
 }
 
 #[tactic(auto, using(crate::proofs::Rows::of_branch, crate::proofs::Rows::branch_at, crate::proofs::Rows::at_none))]
+#[inline(always)]
 fn branch(word: u32) -> Option<Instr>
     requires { f.opcode word ≡ 0b1100011 }
     ensures { result ≡ instr_of word }
@@ -176,6 +178,7 @@ fn branch(word: u32) -> Option<Instr>
 }
 
 #[tactic(auto, using(crate::proofs::Rows::of_load, crate::proofs::Rows::load_at, crate::proofs::Rows::at_none))]
+#[inline(always)]
 fn load(word: u32) -> Option<Instr>
     requires { f.opcode word ≡ 0b0000011 }
     ensures { result ≡ instr_of word }
@@ -192,6 +195,7 @@ fn load(word: u32) -> Option<Instr>
 }
 
 #[tactic(auto, using(crate::proofs::Rows::of_store, crate::proofs::Rows::store_at, crate::proofs::Rows::at_none))]
+#[inline(always)]
 fn store(word: u32) -> Option<Instr>
     requires { f.opcode word ≡ 0b0100011 }
     ensures { result ≡ instr_of word }
@@ -208,6 +212,7 @@ fn store(word: u32) -> Option<Instr>
 }
 
 #[tactic(auto, using(crate::proofs::Rows::of_immediate, crate::proofs::Rows::shift_at, crate::proofs::Rows::at_none))]
+#[inline(always)]
 fn shift(word: u32) -> Option<Instr>
     requires opcode { f.opcode word ≡ 0b0010011 }
     requires shift { f.funct3 word % 4 ≡ 1 }
@@ -225,6 +230,7 @@ fn shift(word: u32) -> Option<Instr>
 }
 
 #[tactic(auto, using(crate::proofs::Rows::of_immediate, crate::proofs::Rows::imm_at, crate::proofs::Rows::at_none))]
+#[inline(always)]
 fn immediate(word: u32) -> Option<Instr>
     requires { f.opcode word ≡ 0b0010011 }
     ensures { result ≡ instr_of word }
@@ -241,6 +247,7 @@ fn immediate(word: u32) -> Option<Instr>
 }
 
 #[tactic(auto, using(crate::proofs::Rows::of_register, crate::proofs::Rows::mul_at, crate::proofs::Rows::at_none))]
+#[inline(always)]
 fn multiply(word: u32) -> Option<Instr>
     requires opcode { f.opcode word ≡ 0b0110011 }
     requires others { f.funct7 word ≢ 0b0000001 → row_of word ≡ None }
@@ -261,6 +268,7 @@ fn multiply(word: u32) -> Option<Instr>
 }
 
 #[tactic(auto, using(crate::proofs::Rows::of_register, crate::proofs::Rows::reg_at, crate::proofs::Rows::at_none))]
+#[inline(always)]
 fn register(word: u32) -> Option<Instr>
     requires { f.opcode word ≡ 0b0110011 }
     ensures { result ≡ instr_of word }
@@ -277,6 +285,7 @@ fn register(word: u32) -> Option<Instr>
 }
 
 #[tactic(auto, using(crate::proofs::Rows::fence_rows))]
+#[inline(always)]
 fn fence(word: u32) -> Option<Instr>
     requires { f.opcode word ≡ 0b0001111 }
     ensures { result ≡ instr_of word }
@@ -292,6 +301,7 @@ fn fence(word: u32) -> Option<Instr>
 }
 
 #[tactic(auto, using(crate::proofs::Rows::system_rows))]
+#[inline(always)]
 fn system(word: u32) -> Option<Instr>
     requires { f.opcode word ≡ 0b1110011 }
     ensures { result ≡ instr_of word }
@@ -304,6 +314,7 @@ fn system(word: u32) -> Option<Instr>
 }
 
 #[tactic(auto, using(crate::proofs::Rows::of_lui, crate::proofs::Rows::of_auipc, crate::proofs::Rows::of_jal, crate::proofs::Rows::no_instr))]
+#[inline(always)]
 fn decoded(word: u32) -> Option<Instr>
     ensures { result ≡ instr_of word }
 {
@@ -334,6 +345,7 @@ fn decoded(word: u32) -> Option<Instr>
 
 /// The instruction of a word of 32 bits, or `None` where no row of the manual's listing of RV32IM fits the word
 /// (RISC-V Unprivileged ISA, "RV32/64G Instruction Set Listings").
+#[inline(always)]
 pub fn decode(word: u32) -> Option<Instr>
     ensures value { result ≡ instr_of word }
     // What is found has this word.
