@@ -8,30 +8,16 @@ seconds of the best of three runs, entries a second and the greatest resident me
 double. Beside them stand the entries a second of a bare core in the same mix, by TURN_BENCH.
 """
 import os
-import subprocess
 import sys
 import tempfile
-import time
 
 sys.dont_write_bytecode = True
 import sched  # those of this folder
 import turns
 
 
-def timed(*words):
-    """The seconds, the resident memory and the words printed by one run that accepts."""
-    begun = time.perf_counter()
-    child = subprocess.Popen(words, stdout=subprocess.PIPE, text=True)
-    said = child.stdout.read()
-    _, status, usage = os.wait4(child.pid, 0)
-    spent = time.perf_counter() - begun
-    child.returncode = os.waitstatus_to_exitcode(status)
-    assert child.returncode == 0, said
-    return spent, usage.ru_maxrss, said.split()
-
-
 def best(*words):
-    runs = [timed(*words) for _ in range(3)]
+    runs = [sched.ran((0,), *words) for _ in range(3)]
     return min(run[0] for run in runs), max(run[1] for run in runs), runs[0][2]
 
 

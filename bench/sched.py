@@ -4,9 +4,10 @@
 Usage: sched.py PROGRAM TURN_BENCH [LOOPS]   (LOOPS is how often each application loops in the longest run, 67,000 unless given)
 
 Each loop is seven entries. Prints, for each length, the entries, the seconds of the best of five runs, entries a second and
-the greatest resident memory in KiB. Each run makes its trace anew: that of the run before is removed first, and the time that
-this takes isn't counted. Linear growth shows as seconds that double. Beside them stand the entries a second of a bare core in the
-same mix, by TURN_BENCH, also the best of five runs.
+the greatest resident memory in KiB; and below, the entries a second of a bare core that makes as many in the same mix, by
+TURN_BENCH, also the best of five runs. The runs of both come in turn, so that they have the same minute of a machine that has
+other work. Each run makes its trace anew: that of the run before is removed first, and the time that this takes isn't counted.
+Linear growth shows as seconds that double.
 """
 import os
 import pathlib
@@ -64,20 +65,37 @@ def assemble(program, loops):
         run(program, "asm", f"{k}.s", f"{k}.elf")
 
 
-def timed(*words):
-    """The seconds, the resident memory and the entries of one run, which makes its trace anew.
-
-    Status 1 is a report of memory that is no known image.
-    """
-    pathlib.Path("trace").unlink(missing_ok=True)
+def ran(statuses, *words):
+    """The seconds, the greatest resident memory in KiB and the words printed by a run that ends with one of these statuses."""
     begun = time.perf_counter()
     child = subprocess.Popen(words, stdout=subprocess.PIPE, text=True)
     said = child.stdout.read()
     _, status, usage = os.wait4(child.pid, 0)
     spent = time.perf_counter() - begun
     child.returncode = os.waitstatus_to_exitcode(status)
-    assert child.returncode in (0, 1), said
-    return spent, usage.ru_maxrss, int(said.split()[-1])
+    assert child.returncode in statuses, said
+    return spent, usage.ru_maxrss, said.split()
+
+
+def timed(*words):
+    """The seconds, the resident memory and the entries of one run of a device, which makes its trace anew.
+
+    Status 1 is a report of memory that is no known image.
+    """
+    pathlib.Path("trace").unlink(missing_ok=True)
+    spent, memory, said = ran((0, 1), *words)
+    return spent, memory, int(said[-1])
+
+
+def compared(program, turn_bench):
+    """RUNS runs of `sched` on the device that stands, each followed by one of a bare core; the seconds of the bare core's best,
+    without the start of its program."""
+    runs, bare = [], []
+    start = min(turns.timed(turn_bench, "bare", 1, turns.MIX) for _ in range(RUNS))
+    for _ in range(RUNS):
+        runs.append(timed(program, "sched", "device", "schedule"))
+        bare.append(turns.timed(turn_bench, "bare", 1, runs[0][2] // turns.MIX * turns.MIX))
+    return runs, min(bare) - start
 
 
 def main():
@@ -88,12 +106,11 @@ def main():
         prepare(program)
         for loops in (most // 4, most // 2, most):
             assemble(program, loops)
-            runs = [timed(program, "sched", "device", "schedule") for _ in range(RUNS)]
+            runs, bare = compared(program, turn_bench)
             best, entries = min(r[0] for r in runs), runs[0][2]
             print(f"{entries:8} entries  {best:.3f} s  {entries / best:,.0f} a second  {max(r[1] for r in runs)} KiB")
+            print(f"  a bare core: {entries / bare:,.0f} a second, {best / bare:.1f} times as many")
         os.chdir("/")
-    bare = turns.best(turn_bench, "bare", 1, entries // turns.MIX * turns.MIX, RUNS)
-    print(f"  a bare core: {bare:,.0f} a second, {bare * best / entries:.1f} times as many")
 
 
 if __name__ == "__main__":
